@@ -1,0 +1,1 @@
+// action.rs: what an action draws.

@@ -1,0 +1,66 @@
+// constants.rs, and the layout of the lent tables. Each number stands in specs/Constants.antt too.
+
+// A pseudo-state: the machine has ended.
+pub const STATE_END: u64 = 4294967295;
+
+// A pseudo-state: the machine signals the other machines.
+pub const STATE_SIGNAL: u64 = 4294967294;
+
+// The limit of a state whose action has none.
+pub const STATE_LIMIT_MAX: u64 = 18446744073709551615;
+
+// The most states that a machine may have.
+pub const STATE_MAX: u64 = 100000;
+
+// The kinds of `Event`.
+pub const EVENT_NUM: u64 = 13;
+
+// A day in microseconds: the largest timeout and duration.
+pub const MAX_SAMPLED_TIMEOUT: u64 = 86400000000;
+
+pub const MAX_SAMPLED_DURATION: u64 = 86400000000;
+
+// The most machines.
+pub const MACHINE_MAX: usize = 16;
+
+// Words of a machine row, a state row and a transition row.
+pub const MACHINE_WORDS: usize = 6;
+
+pub const STATE_WORDS: usize = 58;
+
+pub const TRANSITION_WORDS: usize = 2;
+
+// Where the fields of a state row begin.
+pub const ACTION: usize = 0;
+
+pub const FLAGS: usize = 1;
+
+pub const TIMER: usize = 2;
+
+pub const TIMEOUT: usize = 3;
+
+pub const DURATION: usize = 8;
+
+pub const LIMIT: usize = 13;
+
+pub const COUNTER_A: usize = 18;
+
+pub const COUNTER_B: usize = 25;
+
+pub const EVENTS: usize = 32;
+
+// Codes of an action.
+pub const CANCEL: u64 = 1;
+
+pub const SEND_PADDING: u64 = 2;
+
+pub const BLOCK_OUTGOING: u64 = 3;
+
+pub const UPDATE_TIMER: u64 = 4;
+
+// Codes of a counter's operation.
+pub const INCREMENT: u64 = 1;
+
+pub const DECREMENT: u64 = 2;
+
+pub const SET: u64 = 3;

@@ -1,0 +1,1 @@
+// counter.rs: what a counter changes by.

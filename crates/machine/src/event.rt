@@ -1,0 +1,1 @@
+// event.rs: the events that a state has transitions for.
