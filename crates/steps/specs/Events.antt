@@ -1,0 +1,275 @@
+-- framework.rs: an event over all machines (process_event), and the signals after the last event. A run is a framework, the
+-- pending actions and what the call shares; a refusal inside it stops it.
+use Prim.Native.Nat.{ℕ, zero, suc, _+_, _-_, _*_, min}
+use mathlib.Core.List.{List}
+use mathlib.Core.Bool.{Bool, true, false, cond, not, _&&_, _||_}
+use lib.ListN.{getD, set}
+use lib.Dec.{ltb, eqb}
+use lib.Ieee.{Float, binary64, ofBits}
+use Rattle.numbers.specs.Saturating.{saturatingAdd}
+use Rattle.machine.specs.Constants.{machineMax, machineWords, stateWords, allowedPaddingPackets, maxPaddingFrac, maxBlockingFrac, firstState, numStates, stateEnd}
+use Rattle.machine.specs.Event.{eventOf, normalSent, paddingSent, blockingBegin, blockingEnd, signal}
+use Rattle.machine.specs.State.{rowsOf}
+use Rattle.steps.specs.Transition.{Env, env, noAction, withSignal, transition, decrementLimit}
+use Rattle.steps.specs.declared.MachineRuntime.{MachineRuntime}
+use Rattle.steps.specs.declared.Framework.{Framework}
+use Rattle.steps.specs.declared.Context.{Context}
+use Rattle.steps.specs.declared.Shared.{Shared}
+use Rattle.steps.specs.declared.TriggerAction.{TriggerAction}
+use Rattle.steps.specs.declared.Step.{Step}
+use Rattle.steps.specs.declared.Stepped.{Stepped}
+use Rattle.steps.specs.declared.Stepped.the-variants.{Refused, Done}
+
+-- The lent tables, and the two tapes.
+pub record Tables : Type 0 where
+  pub machines : List ℕ
+  pub states : List ℕ
+  pub transitions : List ℕ
+
+pub record Tapes : Type 0 where
+  pub chances : List Float
+  pub values : List Float
+
+-- A run of a call so far.
+pub record Run : Type 0 where
+  pub framework : Framework
+  pub actions : List TriggerAction
+  pub shared : Shared
+
+pub data Outcome : Type 0 where
+  stop : ℕ → Outcome
+  go : Run → Outcome
+
+abbrev pub andThen : Outcome → (Run → Outcome) → Outcome
+andThen (stop n) f = stop n
+andThen (go x) f = f x
+
+-- n turns from turn i on, in order
+unfoldable pub each : (ℕ → Run → Outcome) → ℕ → ℕ → Run → Outcome
+each f zero i x = go x
+each f (suc n) i x = andThen (f i x) (each f n (i + 1))
+
+-- ---- one machine of the run
+abbrev pub noRuntime : MachineRuntime
+noRuntime = record {
+  «current_state» = 0;
+  «state_limit» = 0;
+  «padding_sent» = 0;
+  «normal_sent» = 0;
+  «blocking_duration» = 0;
+  «machine_start» = 0;
+  «allowed_blocked_microsec» = 0;
+  «counter_a» = 0;
+  «counter_b» = 0;
+}
+
+-- the number of machines; a count above 16 is read as 16
+abbrev pub numMachines : Framework → ℕ
+numMachines fw = min (fw .machines) machineMax
+
+abbrev pub runtimeAt : Framework → ℕ → MachineRuntime
+runtimeAt fw i = getD (fw .runtime) i noRuntime
+
+abbrev pub withRuntime : Framework → List MachineRuntime → Framework
+withRuntime fw runtime = record {
+  machines = fw .machines;
+  «current_time» = fw .«current_time»;
+  «max_padding_frac» = fw .«max_padding_frac»;
+  «normal_sent_packets» = fw .«normal_sent_packets»;
+  «padding_sent_packets» = fw .«padding_sent_packets»;
+  «max_blocking_frac» = fw .«max_blocking_frac»;
+  «blocking_duration» = fw .«blocking_duration»;
+  «blocking_started» = fw .«blocking_started»;
+  «blocking_active» = fw .«blocking_active»;
+  «signal_pending» = fw .«signal_pending»;
+  «framework_start» = fw .«framework_start»;
+  runtime = runtime;
+}
+
+-- word k of a machine's row
+abbrev pub machineWord : List ℕ → ℕ → ℕ → ℕ
+machineWord machines i k = getD machines (i * machineWords + k) 0
+
+abbrev pub contextOf : Tables → Framework → ℕ → Context
+contextOf T fw i = record {
+  machine = i;
+  «allowed_padding_packets» = machineWord (T .machines) i allowedPaddingPackets;
+  «machine_padding_frac» = ofBits binary64 (machineWord (T .machines) i maxPaddingFrac);
+  «machine_blocking_frac» = ofBits binary64 (machineWord (T .machines) i maxBlockingFrac);
+  «current_time» = fw .«current_time»;
+  «max_padding_frac» = fw .«max_padding_frac»;
+  «normal_sent_packets» = fw .«normal_sent_packets»;
+  «padding_sent_packets» = fw .«padding_sent_packets»;
+  «max_blocking_frac» = fw .«max_blocking_frac»;
+  «blocking_duration» = fw .«blocking_duration»;
+  «blocking_started» = fw .«blocking_started»;
+  «blocking_active» = fw .«blocking_active»;
+  «framework_start» = fw .«framework_start»;
+}
+
+-- a machine's own part of the state table
+abbrev pub statesOf : Tables → ℕ → List ℕ
+statesOf T i = rowsOf stateWords (T .states) (machineWord (T .machines) i firstState) (machineWord (T .machines) i numStates)
+
+abbrev pub envOf : Tables → Tapes → Framework → ℕ → Env
+envOf T D fw i = env (statesOf T i) (T .transitions) (D .chances) (D .values) (contextOf T fw i)
+
+-- a machine's step goes back into the run; the other machines stay as they were
+abbrev pub stored : Run → ℕ → Stepped → Outcome
+stored x i (Refused n) = stop n
+stored x i (Done d) = go (record {
+  framework = withRuntime (x .framework) (set (x .framework .runtime) i (d .runtime));
+  actions = set (x .actions) i (d .action);
+  shared = d .shared;
+})
+
+-- ---- what an event counts
+abbrev pub withCounts : MachineRuntime → ℕ → ℕ → ℕ → MachineRuntime
+withCounts r padding normal blocking = record {
+  «current_state» = r .«current_state»;
+  «state_limit» = r .«state_limit»;
+  «padding_sent» = padding;
+  «normal_sent» = normal;
+  «blocking_duration» = blocking;
+  «machine_start» = r .«machine_start»;
+  «allowed_blocked_microsec» = r .«allowed_blocked_microsec»;
+  «counter_a» = r .«counter_a»;
+  «counter_b» = r .«counter_b»;
+}
+
+-- a machine's own counts, just before its transition; `blocked` is how long the blocking that ends was on
+unfoldable pub countedBy : ℕ → ℕ → MachineRuntime → MachineRuntime
+countedBy kind blocked r =
+    cond (eqb kind normalSent) (withCounts r (r .«padding_sent») (saturatingAdd (r .«normal_sent») 1) (r .«blocking_duration»))
+    (cond (eqb kind paddingSent) (withCounts r (saturatingAdd (r .«padding_sent») 1) (r .«normal_sent») (r .«blocking_duration»))
+    (cond (eqb kind blockingEnd) (withCounts r (r .«padding_sent») (r .«normal_sent») (saturatingAdd (r .«blocking_duration») blocked))
+    r))
+
+abbrev pub withPackets : Framework → ℕ → ℕ → Framework
+withPackets fw normal padding = record {
+  machines = fw .machines;
+  «current_time» = fw .«current_time»;
+  «max_padding_frac» = fw .«max_padding_frac»;
+  «normal_sent_packets» = normal;
+  «padding_sent_packets» = padding;
+  «max_blocking_frac» = fw .«max_blocking_frac»;
+  «blocking_duration» = fw .«blocking_duration»;
+  «blocking_started» = fw .«blocking_started»;
+  «blocking_active» = fw .«blocking_active»;
+  «signal_pending» = fw .«signal_pending»;
+  «framework_start» = fw .«framework_start»;
+  runtime = fw .runtime;
+}
+
+abbrev pub withBlocking : Framework → ℕ → ℕ → ℕ → Framework
+withBlocking fw duration started active = record {
+  machines = fw .machines;
+  «current_time» = fw .«current_time»;
+  «max_padding_frac» = fw .«max_padding_frac»;
+  «normal_sent_packets» = fw .«normal_sent_packets»;
+  «padding_sent_packets» = fw .«padding_sent_packets»;
+  «max_blocking_frac» = fw .«max_blocking_frac»;
+  «blocking_duration» = duration;
+  «blocking_started» = started;
+  «blocking_active» = active;
+  «signal_pending» = fw .«signal_pending»;
+  «framework_start» = fw .«framework_start»;
+  runtime = fw .runtime;
+}
+
+abbrev pub isBlocking : Framework → Bool
+isBlocking fw = not (eqb (fw .«blocking_active») 0)
+
+-- how long the ongoing blocking has been on
+unfoldable pub blockedFor : Framework → ℕ
+blockedFor fw = cond (isBlocking fw) (fw .«current_time» - fw .«blocking_started») 0
+
+-- the framework's own counts. A begin while blocking is on does not move the start; an end while it is off adds nothing.
+unfoldable pub accounted : ℕ → Framework → Framework
+accounted kind fw =
+    cond (eqb kind normalSent) (withPackets fw (saturatingAdd (fw .«normal_sent_packets») 1) (fw .«padding_sent_packets»))
+    (cond (eqb kind paddingSent) (withPackets fw (fw .«normal_sent_packets») (saturatingAdd (fw .«padding_sent_packets») 1))
+    (cond (eqb kind blockingBegin) (cond (isBlocking fw) fw (withBlocking fw (fw .«blocking_duration») (fw .«current_time») 1))
+    (cond (eqb kind blockingEnd)
+      (cond (isBlocking fw) (withBlocking fw (saturatingAdd (fw .«blocking_duration») (blockedFor fw)) (fw .«blocking_started») 0) fw)
+      fw)))
+
+-- ---- one machine's turn at an event
+-- the kinds that go to their own machine alone: PaddingSent, TimerBegin (8) and TimerEnd (9)
+abbrev pub ownOnly : ℕ → Bool
+ownOnly kind = eqb kind paddingSent || eqb kind 8 || eqb kind 9
+
+-- the kinds at which a machine's own state limit falls: PaddingSent, BlockingBegin and TimerBegin
+abbrev pub limitFalls : ℕ → ℕ → ℕ → Bool
+limitFalls kind machine i = (eqb kind paddingSent || eqb kind blockingBegin || eqb kind 8) && eqb i machine
+
+-- only where the machine neither changed state nor ended
+abbrev pub afterTransition : Env → Bool → Stepped → Stepped
+afterTransition E falls (Refused n) = Refused n
+afterTransition E falls (Done d) =
+    cond (falls && not (d .changed) && not (eqb (d .runtime .«current_state») stateEnd))
+    (decrementLimit E (d .runtime) (d .shared) (d .action))
+    (Done d)
+
+unfoldable pub turn : Env → ℕ → Bool → ℕ → MachineRuntime → Shared → TriggerAction → Stepped
+turn E kind falls blocked r s p = afterTransition E falls (transition E (eventOf kind) (countedBy kind blocked r) s p)
+
+unfoldable pub machineTurn : Tables → Tapes → ℕ → ℕ → ℕ → ℕ → Run → Outcome
+machineTurn T D kind machine blocked i x =
+    stored x i
+    (turn (envOf T D (x .framework) i) kind (limitFalls kind machine i) blocked
+    (runtimeAt (x .framework) i) (x .shared) (getD (x .actions) i noAction))
+
+-- ---- process_event: the framework's counts, then the machines in order; an unknown machine's own event is counted and no more
+abbrev pub account : ℕ → Run → Run
+account kind x = record { framework = accounted kind (x .framework); actions = x .actions; shared = x .shared }
+
+abbrev pub firstFor : ℕ → ℕ → ℕ
+firstFor kind machine = cond (ownOnly kind) machine 0
+
+abbrev pub turnsFor : ℕ → ℕ → ℕ → ℕ
+turnsFor kind machine count = cond (ownOnly kind) (cond (ltb machine count) 1 0) count
+
+unfoldable pub processEvent : Tables → Tapes → ℕ → ℕ → Run → Outcome
+processEvent T D kind machine x =
+    each (machineTurn T D kind machine (blockedFor (x .framework)))
+    (turnsFor kind machine (numMachines (x .framework))) (firstFor kind machine) (account kind x)
+
+-- event i of an event list: its kind and its machine
+abbrev pub kindAt : List ℕ → ℕ → ℕ
+kindAt es i = getD es (i * 2) 0
+
+abbrev pub machineAt : List ℕ → ℕ → ℕ
+machineAt es i = getD es (i * 2 + 1) 0
+
+abbrev pub eventTurn : Tables → Tapes → List ℕ → ℕ → Run → Outcome
+eventTurn T D es i x = processEvent T D (kindAt es i) (machineAt es i) x
+
+-- ---- signals
+abbrev pub pendingOf : Run → ℕ
+pendingOf x = x .shared .«signal_pending»
+
+-- the pending signal is taken
+abbrev pub unsignalled : Run → Run
+unsignalled x = record { framework = x .framework; actions = x .actions; shared = withSignal (x .shared) 0 }
+
+unfoldable pub signalMachine : Tables → Tapes → ℕ → Run → Outcome
+signalMachine T D i x =
+    stored x i
+    (transition (envOf T D (x .framework) i) signal (runtimeAt (x .framework) i) (x .shared) (getD (x .actions) i noAction))
+
+-- `pending` is the signal that was taken: 2 + i leaves machine i out
+abbrev pub signalTurn : Tables → Tapes → ℕ → ℕ → Run → Outcome
+signalTurn T D pending i x = cond (eqb pending (2 + i)) (go x) (signalMachine T D i x)
+
+-- If the round raised another, the machine left out is signalled last, and what that raises waits for the next call; with none
+-- left out, that signal is dropped.
+abbrev pub lastSignal : Tables → Tapes → ℕ → Run → Outcome
+lastSignal T D pending x =
+    cond (eqb (pendingOf x) 0) (go x)
+    (cond (eqb pending 1) (go (unsignalled x)) (signalMachine T D (pending - 2) (unsignalled x)))
+
+unfoldable pub signals : Tables → Tapes → Run → Outcome
+signals T D x =
+    cond (eqb (pendingOf x) 0) (go x)
+    (andThen (each (signalTurn T D (pendingOf x)) (numMachines (x .framework)) 0 (unsignalled x)) (lastSignal T D (pendingOf x)))

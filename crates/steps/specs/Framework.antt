@@ -1,0 +1,260 @@
+-- framework.rs: the opening (Framework::new), a batch of events (trigger_events) with its refusals and its output, and
+-- all_machines_ended.
+use Prim.Native.Nat.{ℕ, zero, suc, _+_, _-_, _*_, _/_, _%_, min}
+use mathlib.Core.List.{List, [], _∷_, _++_}
+use mathlib.Core.Bool.{Bool, true, false, cond, not, _&&_, _||_}
+use lib.ListN.{length, getD, set, drop, replicate}
+use lib.Dec.{ltb, leb, eqb}
+use lib.Ieee.{Float}
+use Rattle.machine.specs.Constants.{machineMax, machineWords, allowedBlockedMicrosec, numStates, stateEnd}
+use Rattle.machine.specs.Action.{actionOf, sampleLimit}
+use Rattle.machine.specs.Dist.{zeroF, gotWhole}
+use Rattle.machine.specs.State.{stateRow}
+use Rattle.machine.specs.declared.dist.WholeDrawn.{WholeDrawn}
+use Rattle.machine.specs.declared.dist.WholeDrawn.the-variants.{NoWhole, GotWhole}
+use Rattle.tables.specs.Framework.{fractionsRefusal}
+use Rattle.tables.specs.Machine.{tablesRefusal}
+use Rattle.steps.specs.Transition.{noAction, withValueAt}
+use Rattle.steps.specs.Events.{Tables, Tapes, Run, Outcome, stop, go, andThen, each, noRuntime, numMachines, runtimeAt, withRuntime, machineWord, statesOf, eventTurn, kindAt, signals}
+use Rattle.steps.specs.declared.MachineRuntime.{MachineRuntime}
+use Rattle.steps.specs.declared.Framework.{Framework}
+use Rattle.steps.specs.declared.Shared.{Shared}
+use Rattle.steps.specs.declared.TriggerAction.{TriggerAction}
+use Rattle.steps.specs.declared.Opened.{Opened}
+use Rattle.steps.specs.declared.Answer.{Answer}
+
+-- the first refusal that is not 0
+abbrev pub orElse : ℕ → ℕ → ℕ
+orElse first second = cond (eqb first 0) second first
+
+-- ---- a call begins: no actions, no counter has reported zero, both tapes at their front
+abbrev pub sharedFrom : ℕ → Shared
+sharedFrom pending = record {
+  «signal_pending» = pending;
+  «counter_a_zeroed» = false;
+  «counter_b_zeroed» = false;
+  «chance_at» = 0;
+  «value_at» = 0;
+}
+
+abbrev pub noActions : List TriggerAction
+noActions = replicate machineMax noAction
+
+-- ---- the opening
+abbrev pub noFramework : Framework
+noFramework = record {
+  machines = 0;
+  «current_time» = 0;
+  «max_padding_frac» = zeroF;
+  «normal_sent_packets» = 0;
+  «padding_sent_packets» = 0;
+  «max_blocking_frac» = zeroF;
+  «blocking_duration» = 0;
+  «blocking_started» = 0;
+  «blocking_active» = 0;
+  «signal_pending» = 0;
+  «framework_start» = 0;
+  runtime = replicate machineMax noRuntime;
+}
+
+-- before its machines are in: blocking is off, and counts from the opening's time
+abbrev pub newFramework : ℕ → Float → Float → ℕ → Framework
+newFramework machines padding blocking time = record {
+  machines = machines;
+  «current_time» = time;
+  «max_padding_frac» = padding;
+  «normal_sent_packets» = 0;
+  «padding_sent_packets» = 0;
+  «max_blocking_frac» = blocking;
+  «blocking_duration» = 0;
+  «blocking_started» = time;
+  «blocking_active» = 0;
+  «signal_pending» = 0;
+  «framework_start» = time;
+  runtime = replicate machineMax noRuntime;
+}
+
+abbrev pub newRuntime : ℕ → ℕ → ℕ → MachineRuntime
+newRuntime time allowed limit = record {
+  «current_state» = 0;
+  «state_limit» = limit;
+  «padding_sent» = 0;
+  «normal_sent» = 0;
+  «blocking_duration» = 0;
+  «machine_start» = time;
+  «allowed_blocked_microsec» = allowed;
+  «counter_a» = 0;
+  «counter_b» = 0;
+}
+
+-- the start state's limit; without an action it stays 0
+unfoldable pub startLimit : List ℕ → List Float → ℕ → WholeDrawn
+startLimit row values at = cond (eqb (actionOf row) 0) (gotWhole 0 at) (sampleLimit row values at)
+
+abbrev pub opened : Tables → ℕ → Run → WholeDrawn → Outcome
+opened T i x (NoWhole n) = stop n
+opened T i x (GotWhole w) = go (record {
+  framework =
+    withRuntime (x .framework)
+    (set (x .framework .runtime) i
+    (newRuntime (x .framework .«current_time») (machineWord (T .machines) i allowedBlockedMicrosec) (w .value)));
+  actions = x .actions;
+  shared = withValueAt (x .shared) (w .at);
+})
+
+unfoldable pub openTurn : Tables → List Float → ℕ → Run → Outcome
+openTurn T values i x = opened T i x (startLimit (stateRow (statesOf T i) 0) values (x .shared .«value_at»))
+
+-- how many machines a table has
+abbrev pub rowsIn : List ℕ → ℕ
+rowsIn machines = length machines / machineWords
+
+abbrev pub openRun : Tables → Float → Float → ℕ → List Float → Outcome
+openRun T padding blocking time values =
+    each (openTurn T values) (rowsIn (T .machines)) 0
+    (record { framework = newFramework (rowsIn (T .machines)) padding blocking time; actions = noActions; shared = sharedFrom 0 })
+
+-- a refused opening: the number, a framework with no machines, all zero
+abbrev pub openedBy : Outcome → Opened
+openedBy (stop n) = record { refusal = n; «chance_used» = 0; «value_used» = 0; framework = noFramework }
+openedBy (go x) = record {
+  refusal = 0;
+  «chance_used» = x .shared .«chance_at»;
+  «value_used» = x .shared .«value_at»;
+  framework = x .framework;
+}
+
+-- Framework::new
+unfoldable pub opening : Tables → Float → Float → ℕ → List Float → Opened
+opening T padding blocking time values =
+    let n = orElse (fractionsRefusal padding blocking) (tablesRefusal (T .machines) (T .states) (T .transitions)) in
+    cond (eqb n 0) (openedBy (openRun T padding blocking time values)) (openedBy (stop n))
+
+-- ---- what a batch refuses before it runs
+-- 18: a current state that is neither ended nor in the machine, of the first n machines
+unfoldable pub statesFit : Tables → Framework → ℕ → Bool
+statesFit T fw zero = true
+statesFit T fw (suc n) =
+    statesFit T fw n
+    && (eqb (runtimeAt fw n .«current_state») stateEnd || ltb (runtimeAt fw n .«current_state») (machineWord (T .machines) n numStates))
+
+-- 18: the machine count, the states, and a pending signal that leaves out an unknown machine
+unfoldable pub fitsTables : Tables → Framework → Bool
+fitsTables T fw =
+    eqb (fw .machines) (rowsIn (T .machines))
+    && statesFit T fw (rowsIn (T .machines))
+    && ltb (fw .«signal_pending») (2 + rowsIn (T .machines))
+
+-- 19: a kind above 9, of the first n events
+unfoldable pub kindsFit : List ℕ → ℕ → Bool
+kindsFit es zero = true
+kindsFit es (suc n) = kindsFit es n && leb (kindAt es n) 9
+
+unfoldable pub eventsFit : List ℕ → Bool
+eventsFit es = eqb (length es % 2) 0 && kindsFit es (length es / 2)
+
+-- the table checks; 18; 19; 20: an output of fewer than 6 words for each machine
+unfoldable pub batchRefusal : Framework → Tables → List ℕ → List ℕ → ℕ
+batchRefusal fw T es out =
+    orElse (tablesRefusal (T .machines) (T .states) (T .transitions))
+    (cond (fitsTables T fw)
+    (cond (eventsFit es)
+    (cond (ltb (length out) (6 * rowsIn (T .machines))) 20 0)
+    19)
+    18)
+
+-- ---- a batch that runs (trigger_events): the new time, the events in order, then the signals
+abbrev pub withTime : Framework → ℕ → Framework
+withTime fw time = record {
+  machines = fw .machines;
+  «current_time» = time;
+  «max_padding_frac» = fw .«max_padding_frac»;
+  «normal_sent_packets» = fw .«normal_sent_packets»;
+  «padding_sent_packets» = fw .«padding_sent_packets»;
+  «max_blocking_frac» = fw .«max_blocking_frac»;
+  «blocking_duration» = fw .«blocking_duration»;
+  «blocking_started» = fw .«blocking_started»;
+  «blocking_active» = fw .«blocking_active»;
+  «signal_pending» = fw .«signal_pending»;
+  «framework_start» = fw .«framework_start»;
+  runtime = fw .runtime;
+}
+
+abbrev pub withPending : Framework → ℕ → Framework
+withPending fw pending = record {
+  machines = fw .machines;
+  «current_time» = fw .«current_time»;
+  «max_padding_frac» = fw .«max_padding_frac»;
+  «normal_sent_packets» = fw .«normal_sent_packets»;
+  «padding_sent_packets» = fw .«padding_sent_packets»;
+  «max_blocking_frac» = fw .«max_blocking_frac»;
+  «blocking_duration» = fw .«blocking_duration»;
+  «blocking_started» = fw .«blocking_started»;
+  «blocking_active» = fw .«blocking_active»;
+  «signal_pending» = pending;
+  «framework_start» = fw .«framework_start»;
+  runtime = fw .runtime;
+}
+
+abbrev pub begin : Framework → ℕ → Run
+begin fw time = record { framework = withTime fw time; actions = noActions; shared = sharedFrom (fw .«signal_pending») }
+
+unfoldable pub triggerEvents : Tables → Tapes → ℕ → List ℕ → Framework → Outcome
+triggerEvents T D time es fw = andThen (each (eventTurn T D es) (length es / 2) 0 (begin fw time)) (signals T D)
+
+-- ---- the output: one row of six words for each action, in machine order
+abbrev pub actionRow : ℕ → TriggerAction → List ℕ
+actionRow i p = cond (eqb (p .kind) 0) [] (i ∷ p .kind ∷ p .flags ∷ p .timer ∷ p .timeout ∷ p .duration ∷ [])
+
+-- the rows of the first n machines
+unfoldable pub actionRows : List TriggerAction → ℕ → List ℕ
+actionRows actions zero = []
+actionRows actions (suc n) = actionRows actions n ++ actionRow n (getD actions n noAction)
+
+-- words after the last row stay
+abbrev pub written : List ℕ → List ℕ → List ℕ
+written rows out = rows ++ drop (length rows) out
+
+-- ---- a batch: its answer, and its output afterwards
+pub record Batch : Type 0 where
+  pub answer : Answer
+  pub out : List ℕ
+
+-- refused: the framework as it went in, both draw counts 0, the output untouched
+abbrev pub refused : Framework → List ℕ → ℕ → Batch
+refused fw out n = record {
+  answer = record { refusal = n; actions = 0; «chance_used» = 0; «value_used» = 0; framework = fw };
+  out = out;
+}
+
+abbrev pub returnedBy : Run → List ℕ
+returnedBy x = actionRows (x .actions) (numMachines (x .framework))
+
+abbrev pub accepted : Run → List ℕ → Batch
+accepted x out = record {
+  answer = record {
+    refusal = 0;
+    actions = length (returnedBy x) / 6;
+    «chance_used» = x .shared .«chance_at»;
+    «value_used» = x .shared .«value_at»;
+    framework = withPending (x .framework) (x .shared .«signal_pending»);
+  };
+  out = written (returnedBy x) out;
+}
+
+abbrev pub concluded : Framework → List ℕ → Outcome → Batch
+concluded fw out (stop n) = refused fw out n
+concluded fw out (go x) = accepted x out
+
+unfoldable pub batch : Framework → Tables → ℕ → List ℕ → Tapes → List ℕ → Batch
+batch fw T time es D out =
+    let n = batchRefusal fw T es out in
+    cond (eqb n 0) (concluded fw out (triggerEvents T D time es fw)) (refused fw out n)
+
+-- ---- all_machines_ended: true with no machines
+unfoldable pub endedTo : Framework → ℕ → Bool
+endedTo fw zero = true
+endedTo fw (suc n) = endedTo fw n && eqb (runtimeAt fw n .«current_state») stateEnd
+
+unfoldable pub allMachinesEnded : Framework → Bool
+allMachinesEnded fw = endedTo fw (numMachines fw)

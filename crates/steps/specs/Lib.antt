@@ -1,0 +1,5 @@
+-- The steps of framework.rs, from the inside out, and the padding budgets that they keep.
+pub mod Limits
+pub mod Transition
+pub mod Events
+pub mod Framework

@@ -1,0 +1,288 @@
+-- framework.rs: one machine's transition with its counter update, the action that it schedules, and the fall of its state limit
+-- (transition, update_counter, schedule_action, decrement_limit). One machine goes in and comes back: no step touches another.
+use Prim.Native.Nat.{ℕ, zero, suc, _+_, _-_, _*_, _/_, _%_}
+use mathlib.Core.List.{List}
+use mathlib.Core.Bool.{Bool, true, false, cond, not, _&&_, _||_}
+use lib.ListN.{getD}
+use lib.Dec.{ltb, eqb}
+use lib.Ieee.{Float}
+use Rattle.numbers.specs.Saturating.{saturatingAdd}
+use Rattle.machine.specs.Constants.{timer, counterA, counterB, cancel, sendPadding, blockOutgoing, updateTimer, increment, decrement, stateEnd, stateSignal}
+use Rattle.machine.specs.Event.{limitReached, counterZero}
+use Rattle.machine.specs.Action.{actionOf, sampleTimeout, sampleDuration, sampleLimit, hasLimit}
+use Rattle.machine.specs.Counter.{sampleValue}
+use Rattle.machine.specs.Dist.{gotWhole}
+use Rattle.machine.specs.State.{stateRow, firstOf, countOf, chanceDraw, sampleState}
+use Rattle.machine.specs.declared.dist.WholeDrawn.{WholeDrawn}
+use Rattle.machine.specs.declared.dist.WholeDrawn.the-variants.{NoWhole, GotWhole}
+use Rattle.machine.specs.declared.state.ChanceDrawn.{ChanceDrawn}
+use Rattle.machine.specs.declared.state.ChanceDrawn.the-variants.{NoChance, GotChance}
+use Rattle.machine.specs.declared.state.Next.{Next}
+use Rattle.machine.specs.declared.state.Next.the-variants.{State, Nothing}
+use Rattle.steps.specs.Limits.{flagsOf, replaceOf, belowActionLimits}
+use Rattle.steps.specs.declared.MachineRuntime.{MachineRuntime}
+use Rattle.steps.specs.declared.Context.{Context}
+use Rattle.steps.specs.declared.Shared.{Shared}
+use Rattle.steps.specs.declared.TriggerAction.{TriggerAction}
+use Rattle.steps.specs.declared.Step.{Step}
+use Rattle.steps.specs.declared.Stepped.{Stepped}
+use Rattle.steps.specs.declared.Stepped.the-variants.{Refused, Done}
+use Rattle.steps.specs.declared.Counter.{Counter}
+use Rattle.steps.specs.declared.Counted.{Counted}
+use Rattle.steps.specs.declared.Counted.the-variants.{Uncounted, NewValue}
+use Rattle.steps.specs.declared.Update.{Update}
+use Rattle.steps.specs.declared.Updated.{Updated}
+use Rattle.steps.specs.declared.Updated.the-variants.{Halted, Counters}
+use Rattle.steps.specs.declared.Entered.{Entered}
+use Rattle.steps.specs.declared.Entered.the-variants.{Barred, In}
+use Rattle.steps.specs.declared.Scheduled.{Scheduled}
+use Rattle.steps.specs.declared.Scheduled.the-variants.{Unset, Set}
+
+-- What a machine's steps read and do not change: its own part of the state table, the transition table, the two tapes, and its
+-- context.
+pub record Env : Type 0 where
+  pub rows : List ℕ
+  pub transitions : List ℕ
+  pub chances : List Float
+  pub values : List Float
+  pub context : Context
+
+abbrev pub env : List ℕ → List ℕ → List Float → List Float → Context → Env
+env rows transitions chances values context = record {
+  rows = rows;
+  transitions = transitions;
+  chances = chances;
+  values = values;
+  context = context;
+}
+
+-- ---- records with some fields new; antt has no record update
+abbrev pub noAction : TriggerAction
+noAction = record { kind = 0; flags = 0; timer = 0; timeout = 0; duration = 0 }
+
+abbrev pub withState : MachineRuntime → ℕ → ℕ → MachineRuntime
+withState r state limit = record {
+  «current_state» = state;
+  «state_limit» = limit;
+  «padding_sent» = r .«padding_sent»;
+  «normal_sent» = r .«normal_sent»;
+  «blocking_duration» = r .«blocking_duration»;
+  «machine_start» = r .«machine_start»;
+  «allowed_blocked_microsec» = r .«allowed_blocked_microsec»;
+  «counter_a» = r .«counter_a»;
+  «counter_b» = r .«counter_b»;
+}
+
+abbrev pub withCounters : MachineRuntime → ℕ → ℕ → MachineRuntime
+withCounters r a b = record {
+  «current_state» = r .«current_state»;
+  «state_limit» = r .«state_limit»;
+  «padding_sent» = r .«padding_sent»;
+  «normal_sent» = r .«normal_sent»;
+  «blocking_duration» = r .«blocking_duration»;
+  «machine_start» = r .«machine_start»;
+  «allowed_blocked_microsec» = r .«allowed_blocked_microsec»;
+  «counter_a» = a;
+  «counter_b» = b;
+}
+
+-- where the tapes go on
+abbrev pub withChanceAt : Shared → ℕ → Shared
+withChanceAt s at = record {
+  «signal_pending» = s .«signal_pending»;
+  «counter_a_zeroed» = s .«counter_a_zeroed»;
+  «counter_b_zeroed» = s .«counter_b_zeroed»;
+  «chance_at» = at;
+  «value_at» = s .«value_at»;
+}
+
+abbrev pub withValueAt : Shared → ℕ → Shared
+withValueAt s at = record {
+  «signal_pending» = s .«signal_pending»;
+  «counter_a_zeroed» = s .«counter_a_zeroed»;
+  «counter_b_zeroed» = s .«counter_b_zeroed»;
+  «chance_at» = s .«chance_at»;
+  «value_at» = at;
+}
+
+abbrev pub withSignal : Shared → ℕ → Shared
+withSignal s pending = record {
+  «signal_pending» = pending;
+  «counter_a_zeroed» = s .«counter_a_zeroed»;
+  «counter_b_zeroed» = s .«counter_b_zeroed»;
+  «chance_at» = s .«chance_at»;
+  «value_at» = s .«value_at»;
+}
+
+-- which counters have reported zero, and where the value tape goes on, after both counters
+abbrev pub withZeroed : Shared → Counter → Counter → Shared
+withZeroed s a b = record {
+  «signal_pending» = s .«signal_pending»;
+  «counter_a_zeroed» = a .zeroed;
+  «counter_b_zeroed» = b .zeroed;
+  «chance_at» = s .«chance_at»;
+  «value_at» = b .at;
+}
+
+abbrev pub done : MachineRuntime → Shared → TriggerAction → Bool → Stepped
+done r s p changed = Done (record { runtime = r; shared = s; action = p; changed = changed })
+
+-- ---- entering a state: another one draws its limit, or sets the largest; the same one keeps what is left of it
+abbrev pub enteredWith : MachineRuntime → ℕ → WholeDrawn → Entered
+enteredWith r state (NoWhole n) = Barred n
+enteredWith r state (GotWhole w) = In (withState r state (w .value)) (w .at)
+
+unfoldable pub enter : List ℕ → List Float → MachineRuntime → ℕ → ℕ → Entered
+enter row values r state at = cond (eqb (r .«current_state») state) (In r at) (enteredWith r state (sampleLimit row values at))
+
+-- ---- a raised signal leaves out its sender, unless one was raised before
+unfoldable pub raise : ℕ → ℕ → ℕ
+raise pending machine = cond (eqb pending 0) (2 + machine) 1
+
+-- ---- schedule_action: the timeout is drawn before the duration. Cancel returns its timer, UpdateTimer of its flags replace alone.
+abbrev pub returnedFlags : List ℕ → ℕ
+returnedFlags row = cond (eqb (actionOf row) cancel) 0 (cond (eqb (actionOf row) updateTimer) (flagsOf row / 2 % 2 * 2) (flagsOf row))
+
+abbrev pub returnedTimer : List ℕ → ℕ
+returnedTimer row = cond (eqb (actionOf row) cancel) (getD row timer 0) 0
+
+abbrev pub withDuration : List ℕ → ℕ → WholeDrawn → Scheduled
+withDuration row timeout (NoWhole n) = Unset n
+withDuration row timeout (GotWhole w) =
+    Set (record { kind = actionOf row; flags = returnedFlags row; timer = returnedTimer row; timeout = timeout; duration = w .value }) (w .at)
+
+abbrev pub withTimeout : List ℕ → List Float → WholeDrawn → Scheduled
+withTimeout row values (NoWhole n) = Unset n
+withTimeout row values (GotWhole w) = withDuration row (w .value) (sampleDuration row values (w .at))
+
+unfoldable pub scheduleAction : List ℕ → List Float → ℕ → Scheduled
+scheduleAction row values at = withTimeout row values (sampleTimeout row values at)
+
+-- ---- one counter of update_counter, which begins at word k of the row
+-- Counter::operation: Increment, Decrement, or Set
+unfoldable pub applied : ℕ → ℕ → ℕ → ℕ
+applied operation old change =
+    cond (eqb operation increment) (saturatingAdd old change) (cond (eqb operation decrement) (old - change) change)
+
+-- it reports where it reaches zero from another value, once in a call
+abbrev pub reportsZero : ℕ → ℕ → Bool → Bool
+reportsZero old value zeroed = not (eqb old 0) && eqb value 0 && not zeroed
+
+abbrev pub counterOf : Bool → ℕ → Bool → ℕ → Counted
+counterOf reports value zeroed at = NewValue (record { value = value; zeroed = zeroed || reports; reports = reports; at = at })
+
+abbrev pub changedBy : ℕ → ℕ → Bool → WholeDrawn → Counted
+changedBy operation old zeroed (NoWhole n) = Uncounted n
+changedBy operation old zeroed (GotWhole w) =
+    counterOf (reportsZero old (applied operation old (w .value)) zeroed) (applied operation old (w .value)) zeroed (w .at)
+
+-- it changes by the other counter's value from before the update where copy is set, and else by a sample
+abbrev pub changeOf : List ℕ → ℕ → List Float → ℕ → ℕ → WholeDrawn
+changeOf row k values at other = cond (eqb (getD row (k + 1) 0) 1) (gotWhole other at) (sampleValue row k values at)
+
+unfoldable pub updateOne : List ℕ → ℕ → List Float → ℕ → ℕ → ℕ → Bool → Counted
+updateOne row k values at old other zeroed =
+    cond (eqb (getD row k 0) 0) (counterOf false old zeroed at)
+    (changedBy (getD row k 0) old zeroed (changeOf row k values at other))
+
+-- ---- after the counters: the action is scheduled where the limits were not reached before the counter update, and where a
+-- CounterZero left the machine none; out of the state and back is a change
+abbrev pub hasChanged : ℕ → Update → Bool
+hasChanged before u = u .«state_changed» || not (eqb before (u .runtime .«current_state»))
+
+abbrev pub scheduledStep : Update → Bool → Scheduled → Stepped
+scheduledStep u changed (Unset n) = Refused n
+scheduledStep u changed (Set p at) = done (u .runtime) (withValueAt (u .shared) at) p changed
+
+unfoldable pub finish : List ℕ → List Float → ℕ → Bool → Update → Stepped
+finish row values before below u =
+    cond (u .«allow_schedule» && below)
+    (scheduledStep u (hasChanged before u) (scheduleAction row values (u .shared .«value_at»)))
+    (done (u .runtime) (u .shared) (u .action) (hasChanged before u))
+
+abbrev pub finished : List ℕ → List Float → ℕ → Bool → Updated → Stepped
+finished row values before below (Halted n) = Refused n
+finished row values before below (Counters u) = finish row values before below u
+
+-- ---- after a CounterZero the outer action is set only if the machine has none yet, one from an earlier event included
+abbrev pub afterZero : Stepped → Updated
+afterZero (Refused n) = Halted n
+afterZero (Done d) =
+    Counters (record { runtime = d .runtime; shared = d .shared; action = d .action; «allow_schedule» = eqb (d .action .kind) 0; «state_changed» = d .changed })
+
+-- ---- transition and update_counter, given what a CounterZero transition does
+module _ (zeroTransition : MachineRuntime → Shared → TriggerAction → Stepped) (E : Env) where
+  -- B is updated after A, by values from before the update
+  abbrev pub onB : MachineRuntime → Shared → TriggerAction → Counter → Counted → Updated
+  onB r s p a (Uncounted n) = Halted n
+  onB r s p a (NewValue b) =
+      cond (a .reports || b .reports)
+      (afterZero (zeroTransition (withCounters r (a .value) (b .value)) (withZeroed s a b) p))
+      (Counters (record { runtime = withCounters r (a .value) (b .value); shared = withZeroed s a b; action = p; «allow_schedule» = true; «state_changed» = false }))
+
+  abbrev pub onA : List ℕ → MachineRuntime → Shared → TriggerAction → Counted → Updated
+  onA row r s p (Uncounted n) = Halted n
+  onA row r s p (NewValue a) =
+      onB r s p a (updateOne row counterB (E .values) (a .at) (r .«counter_b») (r .«counter_a») (s .«counter_b_zeroed»))
+
+  -- update_counter, of the row of the machine's state
+  unfoldable pub updateCounter : List ℕ → MachineRuntime → Shared → TriggerAction → Updated
+  updateCounter row r s p =
+      onA row r s p (updateOne row counterA (E .values) (s .«value_at») (r .«counter_a») (r .«counter_b») (s .«counter_a_zeroed»))
+
+  -- in the next state: limits are judged before the counters
+  abbrev pub entering : List ℕ → ℕ → Shared → TriggerAction → Entered → Stepped
+  entering row before s p (Barred n) = Refused n
+  entering row before s p (In r at) =
+      finished row (E .values) before (belowActionLimits (E .context) r row) (updateCounter row r (withValueAt s at) p)
+
+  -- END is a change and neither sets nor clears an action; SIGNAL is no change
+  abbrev pub going : MachineRuntime → Shared → TriggerAction → Next → Stepped
+  going r s p Nothing = done r s p false
+  going r s p (State next) =
+      cond (eqb next stateEnd) (done (withState r stateEnd (r .«state_limit»)) s p true)
+      (cond (eqb next stateSignal) (done r (withSignal s (raise (s .«signal_pending») (E .context .machine))) p false)
+      (entering (stateRow (E .rows) next) (r .«current_state») s p
+      (enter (stateRow (E .rows) next) (E .values) r next (s .«value_at»))))
+
+  abbrev pub drawn : List ℕ → ℕ → MachineRuntime → Shared → TriggerAction → ChanceDrawn → Stepped
+  drawn row event r s p (NoChance n) = Refused n
+  drawn row event r s p (GotChance draw at) =
+      going r (withChanceAt s at) p (sampleState (E .transitions) (firstOf row event) (countOf row event) draw)
+
+  -- transition: a machine that has ended does nothing; without a row for the event nothing is drawn
+  unfoldable pub transitionBy : ℕ → MachineRuntime → Shared → TriggerAction → Stepped
+  transitionBy event r s p =
+      cond (eqb (r .«current_state») stateEnd) (done r s p false)
+      (cond (eqb (countOf (stateRow (E .rows) (r .«current_state»)) event) 0) (done r s p false)
+      (drawn (stateRow (E .rows) (r .«current_state»)) event r s p (chanceDraw (E .chances) (s .«chance_at»))))
+
+-- ---- the recursion falls with the number of counters that may still report zero in this call
+abbrev pub unspent : Bool → ℕ
+unspent zeroed = cond zeroed 0 1
+
+abbrev pub left : Shared → ℕ
+left s = unspent (s .«counter_a_zeroed») + unspent (s .«counter_b_zeroed»)
+
+-- the CounterZero transition where n counters may still report; with none left it is never met
+unfoldable pub zeroTransition : ℕ → Env → MachineRuntime → Shared → TriggerAction → Stepped
+zeroTransition zero E r s p = done r s p false
+zeroTransition (suc n) E r s p = transitionBy (zeroTransition n E) E counterZero r s p
+
+abbrev pub transitionAt : ℕ → Env → ℕ → MachineRuntime → Shared → TriggerAction → Stepped
+transitionAt n E = transitionBy (zeroTransition n E) E
+
+abbrev pub updateCounterAt : ℕ → Env → List ℕ → MachineRuntime → Shared → TriggerAction → Updated
+updateCounterAt n E = updateCounter (zeroTransition n E) E
+
+-- transition: two counters, so two at the most
+abbrev pub transition : Env → ℕ → MachineRuntime → Shared → TriggerAction → Stepped
+transition E = transitionAt 2 E
+
+-- ---- decrement_limit: the state limit falls by 1, not below 0. At 0, where the action has a limit, the pending action goes and
+-- LimitReached follows.
+unfoldable pub decrementLimit : Env → MachineRuntime → Shared → TriggerAction → Stepped
+decrementLimit E r s p =
+    cond (eqb (r .«state_limit» - 1) 0 && hasLimit (stateRow (E .rows) (r .«current_state»)))
+    (transition E limitReached (withState r (r .«current_state») (r .«state_limit» - 1)) s noAction)
+    (done (withState r (r .«current_state») (r .«state_limit» - 1)) s p false)
