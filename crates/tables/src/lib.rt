@@ -1,0 +1,1 @@
+// The checks of the lent tables and of the framework's fractions: refusals 1 to 15.
