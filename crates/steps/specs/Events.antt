@@ -191,8 +191,8 @@ accounted kind fw =
     (cond (eqb kind paddingSent) (withPackets fw (fw .«normal_sent_packets») (saturatingAdd (fw .«padding_sent_packets») 1))
     (cond (eqb kind blockingBegin) (cond (isBlocking fw) fw (withBlocking fw (fw .«blocking_duration») (fw .«current_time») 1))
     (cond (eqb kind blockingEnd)
-      (cond (isBlocking fw) (withBlocking fw (saturatingAdd (fw .«blocking_duration») (blockedFor fw)) (fw .«blocking_started») 0) fw)
-      fw)))
+    (cond (isBlocking fw) (withBlocking fw (saturatingAdd (fw .«blocking_duration») (blockedFor fw)) (fw .«blocking_started») 0) fw)
+    fw)))
 
 -- ---- one machine's turn at an event
 -- the kinds that go to their own machine alone: PaddingSent, TimerBegin (8) and TimerEnd (9)

@@ -12,6 +12,7 @@ use Rattle.machine.specs.Dist.{zeroF, gotWhole}
 use Rattle.machine.specs.State.{stateRow}
 use Rattle.machine.specs.declared.dist.WholeDrawn.{WholeDrawn}
 use Rattle.machine.specs.declared.dist.WholeDrawn.the-variants.{NoWhole, GotWhole}
+use Rattle.tables.specs.First.{orElse}
 use Rattle.tables.specs.Framework.{fractionsRefusal}
 use Rattle.tables.specs.Machine.{tablesRefusal}
 use Rattle.steps.specs.Transition.{noAction, withValueAt}
@@ -22,10 +23,6 @@ use Rattle.steps.specs.declared.Shared.{Shared}
 use Rattle.steps.specs.declared.TriggerAction.{TriggerAction}
 use Rattle.steps.specs.declared.Opened.{Opened}
 use Rattle.steps.specs.declared.Answer.{Answer}
-
--- the first refusal that is not 0
-abbrev pub orElse : ℕ → ℕ → ℕ
-orElse first second = cond (eqb first 0) second first
 
 -- ---- a call begins: no actions, no counter has reported zero, both tapes at their front
 abbrev pub sharedFrom : ℕ → Shared
@@ -95,9 +92,9 @@ abbrev pub opened : Tables → ℕ → Run → WholeDrawn → Outcome
 opened T i x (NoWhole n) = stop n
 opened T i x (GotWhole w) = go (record {
   framework =
-    withRuntime (x .framework)
-    (set (x .framework .runtime) i
-    (newRuntime (x .framework .«current_time») (machineWord (T .machines) i allowedBlockedMicrosec) (w .value)));
+      withRuntime (x .framework)
+      (set (x .framework .runtime) i
+      (newRuntime (x .framework .«current_time») (machineWord (T .machines) i allowedBlockedMicrosec) (w .value)));
   actions = x .actions;
   shared = withValueAt (x .shared) (w .at);
 })
