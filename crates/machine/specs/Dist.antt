@@ -36,9 +36,12 @@ distAt row k = record {
 }
 
 -- ---- Dist::validate
+unfoldable pub validUniform : Float → Float → Bool
+validUniform low high = isFinite low && isFinite high && not (lt high low) && isFinite (sub binary64 high low)
+
 abbrev pub validType : DistType → Bool
 validType Absent = true
-validType (Uniform low high) = isFinite low && isFinite high && not (lt high low) && isFinite (sub binary64 high low)
+validType (Uniform low high) = validUniform low high
 validType Outside = true
 
 unfoldable pub validate : Dist → Bool

@@ -49,6 +49,14 @@ pub const COUNTER_B: usize = 25;
 
 pub const EVENTS: usize = 32;
 
+// Words of a counter before its distribution: operation and copy.
+pub const COUNTER_DIST: usize = 2;
+
+// Kinds of a distribution; 2 is drawn outside.
+pub const ABSENT: u64 = 0;
+
+pub const UNIFORM: u64 = 1;
+
 // Codes of an action.
 pub const CANCEL: u64 = 1;
 

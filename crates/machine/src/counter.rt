@@ -1,1 +1,31 @@
 // counter.rs: what a counter changes by.
+use super::constants::ABSENT;
+use super::constants::COUNTER_DIST;
+use super::dist::ValueDrawn;
+use super::dist::Whole;
+use super::dist::WholeDrawn;
+ghost use mathlib.Core.Path.{_≡_};
+ghost use Prim.Native.Nat.{_≤_};
+ghost use Rattle.machine.specs.Counter.{sampleValue};
+
+// The value of the counter that begins at word k: cut, not rounded; 1 without a distribution.
+pub fn sample_value(row: &[u64], k: usize, values: &[f64], at: usize) -> WholeDrawn
+    requires { ⌜ k ≤ 56 ⌝ }
+    ensures { λ r. ⌜ r ≡ sampleValue (now (row .entry)) k (now (values .entry)) at ⌝ }
+{
+    let dist = k + COUNTER_DIST;
+    if super::state::word(row, dist) == ABSENT {
+        return WholeDrawn::GotWhole(Whole { value: 1, at: at });
+    }
+    let drawn = super::dist::sample(super::dist::dist_at(row, dist), values, at);
+    match drawn {
+        ValueDrawn::NoValue(n) => WholeDrawn::NoWhole(n),
+        ValueDrawn::GotValue(v) => {
+            let value = numbers::cut(v.value);
+            WholeDrawn::GotWhole(Whole {
+                value: value,
+                at: v.at,
+            })
+        }
+    }
+}

@@ -1,4 +1,10 @@
 // dist.rs: a distribution, and what is drawn from it.
+use super::constants::ABSENT;
+use super::constants::UNIFORM;
+use super::state::word;
+ghost use mathlib.Core.Path.{_≡_};
+ghost use Prim.Native.Nat.{_≤_};
+ghost use Rattle.machine.specs.Dist as Spec;
 
 // The kind of a distribution. Document 01's "drawn outside" stands for the ten kinds other than Uniform.
 pub enum DistType {
@@ -34,4 +40,166 @@ pub struct Whole {
 pub enum WholeDrawn {
     NoWhole(u64),
     GotWhole(Whole),
+}
+
+// ---- five words of a row
+
+pub fn dist_type(kind: u64, low: f64, high: f64) -> DistType
+    ensures { λ r. ⌜ r ≡ Spec.distType kind low high ⌝ }
+{
+    if kind == ABSENT {
+        return DistType::Absent;
+    }
+    if kind == UNIFORM {
+        return DistType::Uniform(low, high);
+    }
+    DistType::Outside
+}
+
+// The f64 whose bits are word k of a row.
+pub fn f64_at(row: &[u64], k: usize) -> f64
+    ensures { λ r. ⌜ r ≡ Spec.f64At (now (row .entry)) k ⌝ }
+{
+    numbers::f64_of_word(word(row, k))
+}
+
+// The distribution that begins at word k of a state row.
+pub fn dist_at(row: &[u64], k: usize) -> Dist
+    requires { ⌜ k ≤ 58 ⌝ }
+    ensures { λ r. ⌜ r ≡ Spec.distAt (now (row .entry)) k ⌝ }
+{
+    let dist = dist_type(word(row, k), f64_at(row, k + 1), f64_at(row, k + 2));
+    let start = f64_at(row, k + 3);
+    let max = f64_at(row, k + 4);
+    Dist {
+        dist: dist,
+        start: start,
+        max: max,
+    }
+}
+
+// ---- Dist::validate
+
+pub fn valid_uniform(low: f64, high: f64) -> bool
+    ensures { λ r. ⌜ r ≡ Spec.validUniform low high ⌝ }
+{
+    if numbers::is_finite(low) {
+        if numbers::is_finite(high) {
+            if low > high {
+                return false;
+            }
+            return numbers::is_finite(high - low);
+        }
+    }
+    false
+}
+
+pub fn validate(d: Dist) -> bool
+    ensures { λ r. ⌜ r ≡ Spec.validate d ⌝ }
+{
+    let dist = d.dist;
+    match dist {
+        DistType::Absent => true,
+        DistType::Uniform(low, high) => valid_uniform(low, high),
+        DistType::Outside => true,
+    }
+}
+
+// ---- the value tape: it is read by the next two functions alone
+
+// A Uniform value: 16 past the tape's end, 17 where it is not low <= v < high. With low = high it
+// takes no draw.
+pub fn uniform_draw(low: f64, high: f64, values: &[f64], at: usize) -> ValueDrawn
+    ensures { λ r. ⌜ r ≡ Spec.uniformDraw low high (now (values .entry)) at ⌝ }
+{
+    if low == high {
+        return ValueDrawn::GotValue(Value { value: low, at: at });
+    }
+    if at < values.len() {
+        let v = values[at];
+        if low <= v {
+            if v < high {
+                return ValueDrawn::GotValue(Value {
+                    value: v,
+                    at: at + 1,
+                });
+            }
+        }
+        return ValueDrawn::NoValue(17);
+    }
+    ValueDrawn::NoValue(16)
+}
+
+// A value drawn outside: 16 past the tape's end.
+pub fn outside_draw(values: &[f64], at: usize) -> ValueDrawn
+    ensures { λ r. ⌜ r ≡ Spec.outsideDraw (now (values .entry)) at ⌝ }
+{
+    if at < values.len() {
+        ValueDrawn::GotValue(Value {
+            value: values[at],
+            at: at + 1,
+        })
+    } else {
+        ValueDrawn::NoValue(16)
+    }
+}
+
+// ---- Dist::dist_sample and Dist::sample
+
+// Callers do not sample an absent distribution.
+pub fn dist_sample(d: Dist, values: &[f64], at: usize) -> ValueDrawn
+    ensures { λ r. ⌜ r ≡ Spec.distSample d (now (values .entry)) at ⌝ }
+{
+    let dist = d.dist;
+    match dist {
+        DistType::Absent => ValueDrawn::GotValue(Value { value: 0.0, at: at }),
+        DistType::Uniform(low, high) => uniform_draw(low, high, values, at),
+        DistType::Outside => outside_draw(values, at),
+    }
+}
+
+// What is not finite, or not above 0, becomes 0.0.
+pub fn or_zero(x: f64) -> f64
+    ensures { λ r. ⌜ r ≡ Spec.orZero x ⌝ }
+{
+    if numbers::is_finite(x) {
+        if x > 0.0 {
+            return x;
+        }
+    }
+    0.0
+}
+
+// A max above 0 caps; a NaN is not above 0.
+pub fn capped(max: f64, x: f64) -> f64
+    ensures { λ r. ⌜ r ≡ Spec.capped max x ⌝ }
+{
+    if max > 0.0 {
+        if max < x {
+            return max;
+        }
+    }
+    x
+}
+
+pub fn adjusted(d: Dist, sampled: f64) -> f64
+    ensures { λ r. ⌜ r ≡ Spec.adjusted d sampled ⌝ }
+{
+    capped(d.max, or_zero(sampled + d.start))
+}
+
+pub fn sample(d: Dist, values: &[f64], at: usize) -> ValueDrawn
+    ensures { λ r. ⌜ r ≡ Spec.sample d (now (values .entry)) at ⌝ }
+{
+    let drawn = dist_sample(d, values, at);
+    match drawn {
+        ValueDrawn::NoValue(n) => ValueDrawn::NoValue(n),
+        ValueDrawn::GotValue(v) => {
+            let value = adjusted(d, v.value);
+            ValueDrawn::GotValue(Value {
+                value: value,
+                at: v.at,
+            })
+        }
+    }
 }

@@ -1,0 +1,55 @@
+-- `dist_at` meets its contract: each part of the record is what its function ensures. Assumes nothing.
+use borrow.Author.Needs.{needs}
+use Rattle.machine.specs.Dist.{distAt}
+use Rattle.machine.proofs.dist.dist_at.Statement.{statement}
+use Rattle.machine.proofs.dist.dist_at.Tie as tie
+
+word-requires : tie.Need-word-requires
+word-requires c κs = search needs
+
+add-f64-at : tie.Need-add-f64-at
+add-f64-at c = search needs
+
+f64-at-requires : tie.Need-f64-at-requires
+f64-at-requires c κs = search needs
+
+add-f64-at-2 : tie.Need-add-f64-at-2
+add-f64-at-2 c = search needs
+
+f64-at-requires-2 : tie.Need-f64-at-requires-2
+f64-at-requires-2 c κs = search needs
+
+dist-type-requires : tie.Need-dist-type-requires
+dist-type-requires c κs = search needs
+
+add-f64-at-3 : tie.Need-add-f64-at-3
+add-f64-at-3 c = search needs
+
+f64-at-requires-3 : tie.Need-f64-at-requires-3
+f64-at-requires-3 c κs = search needs
+
+add-f64-at-4 : tie.Need-add-f64-at-4
+add-f64-at-4 c = search needs
+
+f64-at-requires-4 : tie.Need-f64-at-requires-4
+f64-at-requires-4 c κs = search needs
+
+returns : tie.Need-returns
+unfolding distAt
+returns c = rw (c .before .before .dist-type .ensures, c .before .before .before .before .before .word .ensures, c .before .before .before .before .f64-at .ensures, c .before .before .before .f64-at2 .ensures, c .before .f64-at3 .ensures, c .f64-at4 .ensures)
+
+pub dist-at-spec : {M : Type 1} → statement M
+dist-at-spec =
+    tie.close
+    (tie.spec
+    word-requires
+    add-f64-at
+    f64-at-requires
+    add-f64-at-2
+    f64-at-requires-2
+    dist-type-requires
+    add-f64-at-3
+    f64-at-requires-3
+    add-f64-at-4
+    f64-at-requires-4
+    returns)
