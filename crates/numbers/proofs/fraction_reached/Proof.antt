@@ -1,4 +1,5 @@
--- `numbers::fraction_reached` meets its contract: the two counts are what `count_as_f64` ensures. Assumes nothing.
+-- `numbers::fraction_reached` meets its contract: the two counts are what `count_as_f64` ensures.
+-- Assumes nothing.
 use borrow.Author.Needs.{needs}
 use mathlib.Core.Path.{ap₂}
 use lib.Ieee.{Float, binary64, div, le}
@@ -15,7 +16,8 @@ count-as-f64-requires-2 c κs = search needs
 returns : tie.Need-returns
 unfolding reached
 returns c =
-    ap₂ (λ (p : Float) (t : Float). le (c .before .before .args .f) (div binary64 p t)) (c .before .count-as-f64 .ensures) (c .count-as-f642 .ensures)
+    ap₂ (λ (p : Float) (t : Float). le (c .before .before .args .f) (div binary64 p t))
+    (c .before .count-as-f64 .ensures) (c .count-as-f642 .ensures)
 
 pub fraction-reached-spec : {M : Type 1} → statement M
 fraction-reached-spec = tie.close (tie.spec count-as-f64-requires count-as-f64-requires-2 returns)
