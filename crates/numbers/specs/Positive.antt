@@ -47,7 +47,7 @@ pub positive-above : (x : Float) → T (positive x) → lt zeroF x ≡ true
 positive-above x p =
     is-true (lt zeroF x) (and-l (lt zeroF x) (lt x (inf false)) (subst T (positive-is x) p))
 
--- ---- a fraction that is above 0 and not above 1
+-- ---- a limit
 no-infinity : (x : Float) → lt zeroF x ≡ true → lt (fin false 1 (pos 0)) x ≡ false
     → lt x (inf false) ≡ true
 unfolding lt
@@ -56,6 +56,7 @@ no-infinity (inf true) a b = refl
 no-infinity (inf false) a b = sym b
 no-infinity (fin s m e) a b = refl
 
+-- above 0 and not above 1, as a limit fraction is: finite
 pub limit-positive : (x : Float) → lt zeroF x ≡ true → lt (fin false 1 (pos 0)) x ≡ false
     → T (positive x)
 limit-positive x a b =

@@ -1,4 +1,5 @@
 -- A float rounded to a whole number, a half away from zero. Definition.
+pub mod Laws
 use Prim.Native.Nat.{ℕ, _+_, _*_, _-_, _/_, _^_, min}
 use mathlib.Core.Bool.{cond}
 use lib.Ieee.{Float, nan, inf, fin, up, down}

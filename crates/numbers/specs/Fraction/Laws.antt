@@ -22,7 +22,7 @@ use Rattle.numbers.specs.Fraction.{reached, in1074}
 use Rattle.numbers.specs.Fraction.Units.{whole-units}
 use Rattle.numbers.specs.Fraction.Quotient.{quotient-is, reaches}
 
--- ---- a fraction in 2 ^ -1074ths: exact, and above 0 where the fraction is finite and above zero
+-- ---- a fraction in 2 ^ -1074ths
 cut-exact : (m : ℕ) (e : ℤ) (k l : ℕ) → HasValue (fin false m e) false k l
     → m * up e * l / down e ≡ k
 cut-exact m e k l v = ap (λ (z : ℕ). z / down e) (v .1) ∙ mul-div-cancel k (down-pos e)
@@ -36,6 +36,7 @@ value-of m e t =
     subst (λ (z : ℕ). HasValue (fin false m e) false z (2 ^ 1074))
     (sym (cut-exact m e k (2 ^ 1074) (u .1))) (u .1)
 
+-- exact: x is in1074 x / 2 ^ 1074
 pub in1074-value : (x : Float) → T (fits binary64 x) → T (positive x)
     → HasValue x false (in1074 x) (2 ^ 1074)
 in1074-value nan t p = absurd p
@@ -43,6 +44,7 @@ in1074-value (inf s) t p = absurd p
 in1074-value (fin true m e) t p = absurd p
 in1074-value (fin false m e) t p = value-of m e t
 
+-- the number is above 0 exactly where x is finite and above zero
 pub positive-units : (x : Float) → T (fits binary64 x) → T (positive x) → 0 < in1074 x
 positive-units x t p = value-pos x (in1074 x) (2 ^ 1074) p (pow-pos 1074) (in1074-value x t p)
 
@@ -87,7 +89,9 @@ reached-mono x p t p' t' h a b a' b' c c' g r =
     (subst (λ (z : Float). T (le x z)) (quotient-is binary64 p t a b c) r)
     (round-mono binary64 p t p' t' c c' g))
 
--- ---- a total of 0: any count of it is an infinity, but 0 of 0 is a NaN
+-- ---- a total of 0: 0 of it is a NaN, any other count of it an infinity
+
+-- 0 of 0 reaches no fraction
 pub none-of-none-passes : (x : Float) → reached 0 0 x ≡ false
 unfolding reached le div ofInt
 none-of-none-passes nan = refl
@@ -119,6 +123,7 @@ infinity-reaches (inf true) h = tt
 infinity-reaches (inf false) h = tt
 infinity-reaches (fin s m e) h = tt
 
+-- any other count of 0 reaches every fraction but a NaN
 pub some-of-none-stops : (x : Float) (p : ℕ) → T (not (isNan x)) → 0 < p → T (reached p 0 x)
 unfolding reached
 some-of-none-stops x p h some =

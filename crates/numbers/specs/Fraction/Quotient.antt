@@ -19,6 +19,7 @@ use lib.Ieee.Positive.{positive, first-pos}
 use Rattle.numbers.specs.Positive.{le-from}
 use Rattle.numbers.specs.Fraction.Units.{round-units}
 
+-- division by what is not zero
 opened : (f : Format) (m : ℕ) (e : ℤ) (n : ℕ) (d : ℤ) → T (not (eqb n 0))
     → div f (fin false m e) (fin false n d) ≡ round f false (m * up e * down d) (n * up d * down e)
 unfolding div
@@ -56,6 +57,7 @@ quotient-of f (fin false m e) (fin false n d) p t h v w =
         ∙ (simp (mul-assoc, mul-comm, mul-left-comm))
         ∙ sym (ap (λ (z : ℕ). p * (z * down e)) b)
 
+-- the quotient of two counts is p / t, rounded
 pub quotient-is : (f : Format) (p t : ℕ) → p ≤ 2 ^ prec f → t ≤ 2 ^ prec f → 0 < t
     → div f (ofInt f (pos p)) (ofInt f (pos t)) ≡ round f false p t
 unfolding ofInt
