@@ -1,4 +1,4 @@
--- Lemmas that several proofs share or that are about plain numbers.
-mod Words
-mod Tests
+-- What the proofs of this crate cite of plain numbers and floats.
 mod Doubled
+mod Tests
+mod Words

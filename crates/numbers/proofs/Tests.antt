@@ -1,87 +1,62 @@
--- A float cut to a whole number, by tests on the float. Assumes nothing.
-use Prim.Native.Nat.{ℕ, zero, suc, _+_, _*_, _-_, _/_, _%_, _^_, _≤_, _<_, zero-le, min}
-use native.Mathlib.Nat.{le-trans, le-of-eq, lt-irrefl, mul-one, mul-comm, mul-pos, le-div-iff-mul-le, not-le-of-lt, zero-lt-suc, zero-mul, lt-of-lt-of-le, lt-of-le-of-lt, le-antisymm}
+-- What tests on a float say of it cut to a whole number, and of its being finite. Assumes nothing.
+use Prim.Native.Nat.{ℕ, _+_, _*_, _-_, _/_, _^_, _≤_, _<_, min}
+use native.Mathlib.Nat.{le-div-iff-mul-le, le-of-eq, le-trans, mul-one}
 use native.Mathlib.Omega.{arith}
-use mathlib.Core.Bool.{Bool, true, false, not, _&&_, _||_, cond, true≢false, false≢true}
-use mathlib.Core.Logic.{_⊎_, inl, inr}
-use mathlib.Core.Path.{_≡_, refl, sym, ap, _∙_, subst}
-use lib.IntN.{ℤ, pos, negsuc}
-use lib.Dec.{T, ltb, eqb, ltb→lt, lt→ltb, eqb→eq}
-use lib.Ieee.{Float, nan, inf, fin, Format, binary32, binary64, top, ones, hid, up, down, div, lt, le, ofBits, nanBits, isNan, toUnsigned}
-use lib.Ieee.Bits.{nanBits-is, nanBits-above}
-use lib.Ieee.Fits.{up-pos, down-pos, and-l, and-r}
-use lib.Pow.{pow-pos}
-use lib.Ieee.Positive.{positive, first-pos}
-use borrow.Author.Tests.{le-ltb, lt-ltb, ltb-true, ltb-false, eqb-false}
-use Rattle.numbers.specs.Fraction.Exact.{le-says}
+use mathlib.Core.Bool.{true, false, true≢false, false≢true}
+use mathlib.Core.Path.{_≡_, refl, sym, _∙_}
+use lib.IntN.{pos}
+use lib.Dec.{ltb}
+use lib.Ieee.{Float, nan, inf, fin, up, down, lt, toUnsigned}
+use lib.Ieee.Fits.{down-pos}
+use borrow.Author.Tests.{lt-ltb, ltb-false}
 use Rattle.numbers.specs.Finite.{isFinite}
 
 -- ---- a float cut
+abbrev minusOne : Float
+minusOne = fin true 1 (pos 0)
+
 abbrev two64 : Float
 two64 = fin false 1 (pos 64)
 
-clash : {b : Bool} {P : Type 0} → b ≡ true → b ≡ false → P
-clash {b} p q = absurd (true≢false (sym p ∙ q))
+-- a sum of which one number is above 0 is not 0
+no-sum : (a b : ℕ) {P : Type 0} → 0 < a + b → ltb 0 (a + b) ≡ false → P
+no-sum a b h p = absurd (true≢false (sym (lt-ltb 0 (a + b) h) ∙ p))
 
--- at or below -1
-pub cut-low : (x : Float) → lt x two64 ≡ true → lt (fin true 1 (pos 0)) x ≡ false → toUnsigned 64 x ≡ 0
+-- not above -1: at it, below it, or a NaN
+pub cut-low : (x : Float) → lt minusOne x ≡ false → 0 ≡ toUnsigned 64 x
 unfolding toUnsigned lt
-cut-low nan p q = refl
-cut-low (inf true) p q = refl
-cut-low (inf false) p q = absurd (false≢true p)
-cut-low (fin true m e) p q = refl
-cut-low (fin false m e) p q = absurd (true≢false (sym (lt-ltb 0 (1 * 1 * down e + m * up e * 1) (more (1 * 1 * down e) (m * up e * 1) (mul-pos (mul-pos (zero-lt-suc 0) (zero-lt-suc 0)) (down-pos e)))) ∙ q))
+cut-low nan p = refl
+cut-low (inf true) p = refl
+cut-low (inf false) p = absurd (true≢false p)
+cut-low (fin true m e) p = refl
+cut-low (fin false m e) p =
+    no-sum (1 * 1 * down e) (m * up e * 1) (more (down e) (m * up e * 1) (down-pos e)) p
   where
-    more : (a b : ℕ) → 0 < a → 0 < a + b
+    more : (a b : ℕ) → 0 < a → 0 < 1 * 1 * a + b
     more a b h = omega arith
 
-or-of : (a b : Bool) → a || b ≡ true → (a ≡ true) ⊎ (b ≡ true)
-or-of true b e = inl refl
-or-of false b e = inr e
-
-or-none : (a b : Bool) → a || b ≡ false → (a ≡ false) × (b ≡ false)
-or-none true b e = absurd (true≢false e)
-or-none false b e = (refl, e)
-
-and-true : (b : Bool) → (b && true) ≡ false → b ≡ false
-and-true true e = e
-and-true false e = e
-
-capped-at : (q c : ℕ) → c + 1 ≤ q → min q c ≡ c
-capped-at q c h = omega arith
-
--- 2 ^ 64 or more
-pub cut-high : (x : Float) → le two64 x ≡ true → toUnsigned 64 x ≡ 2 ^ 64 - 1
-unfolding toUnsigned le
-cut-high nan p = absurd (false≢true p)
-cut-high (inf true) p = absurd (false≢true p)
-cut-high (inf false) p = refl
-cut-high (fin true m e) p = absurd (no (1 * 2 ^ 64 * down e) (m * up e * 1) (mul-pos (mul-pos (zero-lt-suc 0) (pow-pos 64)) (down-pos e)) p)
+capped : (a b c : ℕ) → 0 < b → (c + 1) * b ≤ a → c ≡ min (a / b) c
+capped a b c B h = least (a / b) c (le-div-iff-mul-le B .1 h)
   where
-    no : (a b : ℕ) → 0 < a → false || (eqb a b && (false || eqb a 0)) ≡ true → ⊥
-    no a b h t = lt-irrefl 0 (subst (λ (z : ℕ). 0 < z) (eqb→eq a 0 (and-r (eqb a b) (eqb a 0) (subst T (sym t) tt))) h)
-cut-high (fin false m e) p =
-    capped-at (m * up e / down e) (2 ^ 64 - 1)
-    (le-div-iff-mul-le (down-pos e) .1 (le-trans (at-most (1 * 2 ^ 64 * down e) (m * up e * 1) p) (le-of-eq (mul-one (m * up e)))))
-  where
-    at-most : (a b : ℕ) → ltb a b || (eqb a b && (true || eqb a 0)) ≡ true → a ≤ b
-    at-most a b t = le-says a b (subst T (sym t) tt)
+    least : (q c : ℕ) → c + 1 ≤ q → c ≡ min q c
+    least q c h = omega arith
 
--- neither below 2 ^ 64 nor at it or above: a NaN
-pub cut-nan : (x : Float) → lt x two64 ≡ false → le two64 x ≡ false → toUnsigned 64 x ≡ 0
-unfolding toUnsigned lt le
-cut-nan nan p q = refl
-cut-nan (inf true) p q = refl
-cut-nan (inf false) p q = absurd (true≢false q)
-cut-nan (fin true m e) p q = refl
-cut-nan (fin false m e) p q = absurd (apart (m * up e * 1) (1 * 2 ^ 64 * down e) p q)
+-- above -1 and not below 2 ^ 64
+pub cut-high : (x : Float) → lt minusOne x ≡ true → lt x two64 ≡ false
+    → 2 ^ 64 - 1 ≡ toUnsigned 64 x
+unfolding toUnsigned lt
+cut-high nan p q = absurd (false≢true p)
+cut-high (inf true) p q = absurd (false≢true p)
+cut-high (inf false) p q = refl
+cut-high (fin true m e) p q =
+    no-sum (m * up e * 1) (1 * 2 ^ 64 * down e) (more (m * up e * 1) (down e) (down-pos e)) q
   where
-    apart : (a b : ℕ) → ltb a b ≡ false → ltb b a || (eqb b a && (true || eqb b 0)) ≡ false → ⊥
-    apart a b p q =
-        let k = or-none (ltb b a) (eqb b a && true) q in
-        let g : b ≤ a = ltb-false a b p in
-        let h : a ≤ b = ltb-false b a (k .0) in
-        eqb-false b a (and-true (eqb b a) (k .1)) (le-antisymm g h)
+    more : (a b : ℕ) → 0 < b → 0 < a + 1 * 2 ^ 64 * b
+    more a b h = omega arith
+cut-high (fin false m e) p q =
+    let a = m * up e in
+    let h = ltb-false (a * 1) (1 * 2 ^ 64 * down e) q in
+    capped a (down e) (2 ^ 64 - 1) (down-pos e) (le-trans h (le-of-eq (mul-one a)))
 
 -- ---- a number lies between the infinities
 pub finite-below : (x : Float) → lt x (inf false) ≡ true → lt (inf true) x ≡ isFinite x

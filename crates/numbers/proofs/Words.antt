@@ -1,22 +1,17 @@
--- The float of a word, by a test on the word. Assumes nothing.
-use Prim.Native.Nat.{ℕ, zero, suc, _+_, _*_, _-_, _/_, _%_, _^_, _≤_, _<_, zero-le, min}
-use native.Mathlib.Nat.{le-trans, le-of-eq, lt-irrefl, mul-one, mul-comm, mul-pos, le-div-iff-mul-le, not-le-of-lt, zero-lt-suc, zero-mul, lt-of-lt-of-le, lt-of-le-of-lt, le-antisymm}
-use native.Mathlib.Omega.{arith}
-use mathlib.Core.Bool.{Bool, true, false, not, _&&_, _||_, cond, true≢false, false≢true}
-use mathlib.Core.Logic.{_⊎_, inl, inr}
-use mathlib.Core.Path.{_≡_, refl, sym, ap, _∙_, subst}
-use lib.IntN.{ℤ, pos, negsuc}
-use lib.Dec.{T, ltb, eqb, ltb→lt, lt→ltb, eqb→eq}
-use lib.Ieee.{Float, nan, inf, fin, Format, binary32, binary64, top, ones, hid, up, down, div, lt, le, ofBits, nanBits, isNan, toUnsigned}
+-- A word holds a NaN pattern where, without the sign's bit, it is above the infinity's pattern.
+-- Assumes nothing.
+use Prim.Native.Nat.{ℕ, _*_, _%_, _≤_, _<_}
+use mathlib.Core.Bool.{Bool, true, not, false≢true}
+use mathlib.Core.Path.{_≡_, refl, sym, _∙_, subst}
+use lib.Dec.{T}
+use lib.Ieee.{Float, nan, inf, fin, Format, top, ones, hid, ofBits, nanBits, isNan}
 use lib.Ieee.Bits.{nanBits-is, nanBits-above}
-use lib.Ieee.Fits.{up-pos, down-pos, and-l, and-r}
-use lib.Pow.{pow-pos}
-use lib.Ieee.Positive.{positive, first-pos}
-use borrow.Author.Tests.{le-ltb, lt-ltb, ltb-true, ltb-false, eqb-false}
+use borrow.Author.Tests.{le-ltb, lt-ltb}
 
--- ---- words
-pub no-nan : (f : Format) (n : ℕ) → n % top f ≤ ones f * hid f → T (not (nanBits f n))
-no-nan f n h = subst (λ (b : Bool). T (not b)) (sym (nanBits-above f n ∙ le-ltb (ones f * hid f) (n % top f) h)) tt
+pub no-nan : (f : Format) (w : ℕ) → w % top f ≤ ones f * hid f → T (not (nanBits f w))
+no-nan f w h =
+    let no = nanBits-above f w ∙ le-ltb (ones f * hid f) (w % top f) h in
+    subst (λ (b : Bool). T (not b)) (sym no) tt
 
 is-nan : (x : Float) → isNan x ≡ true → nan ≡ x
 unfolding isNan
@@ -24,5 +19,7 @@ is-nan nan e = refl
 is-nan (inf s) e = absurd (false≢true e)
 is-nan (fin s m k) e = absurd (false≢true e)
 
-pub nan-word : (f : Format) (n : ℕ) → ones f * hid f < n % top f → nan ≡ ofBits f n
-nan-word f n h = is-nan (ofBits f n) (sym (nanBits-is f n) ∙ nanBits-above f n ∙ lt-ltb (ones f * hid f) (n % top f) h)
+pub nan-word : (f : Format) (w : ℕ) → ones f * hid f < w % top f → nan ≡ ofBits f w
+nan-word f w h =
+    let yes = nanBits-above f w ∙ lt-ltb (ones f * hid f) (w % top f) h in
+    is-nan (ofBits f w) (sym (nanBits-is f w) ∙ yes)

@@ -1,6 +1,11 @@
--- Which floats are numbers. Definition.
+-- Which floats are numbers, and the number zero. Definitions.
 use mathlib.Core.Bool.{Bool, true, false}
+use lib.IntN.{pos}
 use lib.Ieee.{Float, nan, inf, fin}
+
+-- +0.0
+abbrev pub zeroF : Float
+zeroF = fin false 0 (pos 0)
 
 -- neither a NaN nor an infinity
 unfoldable pub isFinite : Float → Bool

@@ -1,6 +1,7 @@
 -- A float rounded to a whole number, a half away from zero. Definition.
+pub mod Laws
 use Prim.Native.Nat.{ℕ, _+_, _*_, _-_, _/_, _^_, min}
-use mathlib.Core.Bool.{Bool, true, false, cond}
+use mathlib.Core.Bool.{cond}
 use lib.Ieee.{Float, nan, inf, fin, up, down}
 
 -- The nearest whole number, a half up: of a / b it is (2a + b) / 2b, cut. A NaN and what is below

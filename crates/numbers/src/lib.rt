@@ -52,17 +52,13 @@ pub fn count_as_f64(n: u64) -> f64
 pub fn cut(x: f64) -> u64
     ensures { λ r. ⌜ r ≡ Ieee.toUnsigned 64 x ⌝ }
 {
-    if x < 18446744073709551616.0 {
-        if x > -1.0 {
+    if x > -1.0 {
+        if x < 18446744073709551616.0 {
             return std::num::truncating_f64_to_u64(x);
         }
-        return 0;
+        return u64::MAX;
     }
-    if x >= 18446744073709551616.0 {
-        u64::MAX
-    } else {
-        0
-    }
+    0
 }
 
 // Rust's `x.round() as u64`: to the nearest whole number, a half away from zero. Below 2^62 the

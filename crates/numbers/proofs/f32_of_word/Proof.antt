@@ -1,4 +1,5 @@
--- `numbers::f32_of_word` meets its contract: with the sign's bit taken off, a NaN's pattern is a number above the infinity's. Assumes nothing.
+-- `numbers::f32_of_word` meets its contract: the test tells the NaN patterns from the others.
+-- Assumes nothing.
 use borrow.Author.Needs.{needs}
 use Prim.Native.Nat.{_%_}
 use lib.Ieee.{binary32, div, ofBits}

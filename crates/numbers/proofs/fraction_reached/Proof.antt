@@ -1,7 +1,7 @@
--- `numbers::fraction_reached` meets its contract: the two counts are what `count_as_f64` ensures. Assumes nothing.
+-- `numbers::fraction_reached` meets its contract: the two counts are what `count_as_f64` ensures.
+-- Assumes nothing.
 use borrow.Author.Needs.{needs}
-use mathlib.Core.Path.{ap₂}
-use lib.Ieee.{Float, binary64, div, le}
+use mathlib.Core.Path.{refl}
 use Rattle.numbers.specs.Fraction.{reached}
 use Rattle.numbers.proofs.fraction_reached.Statement.{statement}
 use Rattle.numbers.proofs.fraction_reached.Tie as tie
@@ -14,8 +14,7 @@ count-as-f64-requires-2 c κs = search needs
 
 returns : tie.Need-returns
 unfolding reached
-returns c =
-    ap₂ (λ (p : Float) (t : Float). le (c .before .before .args .f) (div binary64 p t)) (c .before .count-as-f64 .ensures) (c .count-as-f642 .ensures)
+returns c = rw (c .before .count-as-f64 .ensures, c .count-as-f642 .ensures) refl
 
 pub fraction-reached-spec : {M : Type 1} → statement M
 fraction-reached-spec = tie.close (tie.spec count-as-f64-requires count-as-f64-requires-2 returns)

@@ -1,4 +1,5 @@
--- `numbers::is_finite` meets its contract: a number lies between the two infinities. Assumes nothing.
+-- `numbers::is_finite` meets its contract: a number lies between the two infinities. Assumes
+-- nothing.
 use lib.Ieee.{ofBits, div, neg}
 use Rattle.numbers.proofs.Tests.{finite-below, not-below}
 use Rattle.numbers.proofs.is_finite.Statement.{statement}

@@ -1,10 +1,9 @@
--- `numbers::round_half_away` meets its contract. Below 2 ^ 62 the sum x + x is exact, and from there on x is whole. Assumes nothing.
+-- `numbers::round_half_away` meets its contract. Below 2 ^ 62 the sum x + x is exact, and from
+-- there on x is whole. Assumes nothing.
 use borrow.Author.Needs.{needs}
-use mathlib.Core.Path.{_≡_, sym, _∙_, ap, subst}
-use Prim.Native.Nat.{ℕ, _+_, _/_, _≤_, _^_}
-use native.Mathlib.Nat.{le-trans, le-of-eq}
+use Prim.Native.Nat.{ℕ, _+_, _/_}
 use native.Mathlib.Omega.{arith}
-use lib.Dec.{T}
+use mathlib.Core.Path.{ap, _∙_}
 use lib.Ieee.{ofBits, fits, binary64}
 use denote.Floats.{passes}
 use Rattle.numbers.proofs.Doubled.{halved, whole-above}
@@ -18,9 +17,9 @@ add-result : tie.Need-add-result
 unfolding ofBits
 add-result c =
     let start = c .before .before in
-    let h = halved (start .args .x) (passes (fits binary64 (start .args .x)) (start .good .0 .1)) (c .before .if1 .taken) in
-    let k = c .cut .ensures in
-    omega (arith, h .0, k)
+    let x = start .args .x in
+    let h = halved x (passes (fits binary64 x) (start .good .0 .1)) (c .before .if1 .taken) in
+    omega (arith, h .0, c .cut .ensures)
 
 cut-requires-2 : tie.Need-cut-requires-2
 cut-requires-2 c κs = search needs
@@ -29,14 +28,17 @@ returns : tie.Need-returns
 unfolding ofBits
 returns c =
     let start = c .before .before in
-    let h = halved (start .args .x) (passes (fits binary64 (start .args .x)) (start .good .0 .1)) (c .before .if1 .taken) in
+    let x = start .args .x in
+    let h = halved x (passes (fits binary64 x) (start .good .0 .1)) (c .before .if1 .taken) in
     ap (λ (z : ℕ). (z + 1) / 2) (c .cut .ensures) ∙ h .1
 
 returns-2 : tie.Need-returns-2
 unfolding ofBits
 returns-2 c =
     let start = c .before .before in
-    c .cut2 .ensures ∙ whole-above (start .args .x) (passes (fits binary64 (start .args .x)) (start .good .0 .1)) (c .before .if1 .left)
+    let x = start .args .x in
+    c .cut2 .ensures
+    ∙ whole-above x (passes (fits binary64 x) (start .good .0 .1)) (c .before .if1 .left)
 
 pub round-half-away-spec : {M : Type 1} → statement M
 round-half-away-spec = tie.close (tie.spec cut-requires add-result cut-requires-2 returns returns-2)
