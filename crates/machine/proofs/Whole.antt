@@ -23,6 +23,7 @@ uncapped : (x : Float) → min (roundAway x) stateLimitMax ≡ roundAway x
 uncapped x = omega (arith, at-most x)
 
 -- with that cap the rounded number is the number
-pub rounded-fits : (d : ValueDrawn) → wholeOf (λ (x : Float). min (roundAway x) stateLimitMax) d ≡ wholeOf roundAway d
+pub rounded-fits : (d : ValueDrawn) →
+    wholeOf (λ (x : Float). min (roundAway x) stateLimitMax) d ≡ wholeOf roundAway d
 rounded-fits (NoValue n) = refl
 rounded-fits (GotValue v) = ap (λ (w : ℕ). gotWhole w (v .at)) (uncapped (v .value))

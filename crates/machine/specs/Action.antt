@@ -24,16 +24,20 @@ hasDuration row = eqb (actionOf row) blockOutgoing || eqb (actionOf row) updateT
 abbrev pub mayLimit : List ℕ → Bool
 mayLimit row = eqb (actionOf row) sendPadding || eqb (actionOf row) blockOutgoing || eqb (actionOf row) updateTimer
 
--- Action::sample_timeout: the nearest whole number, halves away from zero, at most a day. (The Rust takes the smaller before it
--- rounds: the same, since a day is a whole number.)
+-- The sample of the distribution at word k: the nearest whole number, halves away from zero, at most `most`. (The Rust takes the
+-- smaller before it rounds: the same, since `most` is a whole number.)
+abbrev pub sampleRounded : List ℕ → ℕ → ℕ → List Float → ℕ → WholeDrawn
+sampleRounded row k most values at = wholeOf (λ x. min (roundAway x) most) (sample (distAt row k) values at)
+
+-- Action::sample_timeout: rounded, at most a day; no draw for an action without a timeout
 unfoldable pub sampleTimeout : List ℕ → List Float → ℕ → WholeDrawn
 sampleTimeout row values at =
-    cond (hasTimeout row) (wholeOf (λ x. min (roundAway x) maxSampledTimeout) (sample (distAt row timeout) values at)) (gotWhole 0 at)
+    cond (hasTimeout row) (sampleRounded row timeout maxSampledTimeout values at) (gotWhole 0 at)
 
 -- Action::sample_duration
 unfoldable pub sampleDuration : List ℕ → List Float → ℕ → WholeDrawn
 sampleDuration row values at =
-    cond (hasDuration row) (wholeOf (λ x. min (roundAway x) maxSampledDuration) (sample (distAt row duration) values at)) (gotWhole 0 at)
+    cond (hasDuration row) (sampleRounded row duration maxSampledDuration values at) (gotWhole 0 at)
 
 -- Action::has_limit
 unfoldable pub hasLimit : List ℕ → Bool

@@ -17,16 +17,18 @@ use super::dist::dist_at;
 use super::dist::sample;
 use super::state::word;
 ghost use mathlib.Core.Path.{_≡_};
-ghost use Prim.Native.Nat.{min};
-ghost use lib.Ieee.{Float};
-ghost use Rattle.numbers.specs.Round.{roundAway};
-ghost use Rattle.machine.specs.Dist.{wholeOf};
-ghost use Rattle.machine.specs.Action.{hasTimeout, hasDuration, mayLimit, sampleTimeout, sampleDuration, hasLimit, sampleLimit};
+ghost use Prim.Native.Nat.{_≤_};
+ghost use Rattle.machine.specs.Constants.{stateWords};
+ghost use Rattle.machine.specs.Action.{hasTimeout, hasDuration, mayLimit, hasLimit};
+ghost use Rattle.machine.specs.Action.{sampleRounded, sampleTimeout, sampleDuration, sampleLimit};
 
-// The nearest whole number, halves away from zero, at most `most`.
-pub fn rounded(drawn: ValueDrawn, most: u64) -> WholeDrawn
-    ensures { λ r. ⌜ r ≡ wholeOf (λ (x : Float). min (roundAway x) most) drawn ⌝ }
+// The sample of the distribution at word k, to the nearest whole number, halves away from zero, at
+// most `most`.
+pub fn sample_rounded(row: &[u64], k: usize, most: u64, values: &[f64], at: usize) -> WholeDrawn
+    requires { ⌜ k ≤ stateWords ⌝ }
+    ensures { λ r. ⌜ r ≡ sampleRounded (now (row .entry)) k most (now (values .entry)) at ⌝ }
 {
+    let drawn = sample(dist_at(row, k), values, at);
     match drawn {
         ValueDrawn::NoValue(n) => WholeDrawn::NoWhole(n),
         ValueDrawn::GotValue(v) => {
@@ -39,46 +41,38 @@ pub fn rounded(drawn: ValueDrawn, most: u64) -> WholeDrawn
     }
 }
 
+// SendPadding and BlockOutgoing come after a timeout.
 pub fn has_timeout(row: &[u64]) -> bool
     ensures { λ r. ⌜ r ≡ hasTimeout (now (row .entry)) ⌝ }
 {
     let action = word(row, ACTION);
-    if action == SEND_PADDING {
-        return true;
-    }
-    action == BLOCK_OUTGOING
+    action == SEND_PADDING || action == BLOCK_OUTGOING
 }
 
+// BlockOutgoing and UpdateTimer last for a duration.
 pub fn has_duration(row: &[u64]) -> bool
     ensures { λ r. ⌜ r ≡ hasDuration (now (row .entry)) ⌝ }
 {
     let action = word(row, ACTION);
-    if action == BLOCK_OUTGOING {
-        return true;
-    }
-    action == UPDATE_TIMER
+    action == BLOCK_OUTGOING || action == UPDATE_TIMER
 }
 
+// Action::sample_timeout; 0, with no draw, for an action that has no timeout.
 pub fn sample_timeout(row: &[u64], values: &[f64], at: usize) -> WholeDrawn
     ensures { λ r. ⌜ r ≡ sampleTimeout (now (row .entry)) (now (values .entry)) at ⌝ }
 {
     if has_timeout(row) {
-        return rounded(
-            sample(dist_at(row, TIMEOUT), values, at),
-            MAX_SAMPLED_TIMEOUT,
-        );
+        return sample_rounded(row, TIMEOUT, MAX_SAMPLED_TIMEOUT, values, at);
     }
     WholeDrawn::GotWhole(Whole { value: 0, at: at })
 }
 
+// Action::sample_duration; 0, with no draw, for an action that has no duration.
 pub fn sample_duration(row: &[u64], values: &[f64], at: usize) -> WholeDrawn
     ensures { λ r. ⌜ r ≡ sampleDuration (now (row .entry)) (now (values .entry)) at ⌝ }
 {
     if has_duration(row) {
-        return rounded(
-            sample(dist_at(row, DURATION), values, at),
-            MAX_SAMPLED_DURATION,
-        );
+        return sample_rounded(row, DURATION, MAX_SAMPLED_DURATION, values, at);
     }
     WholeDrawn::GotWhole(Whole { value: 0, at: at })
 }
@@ -87,16 +81,10 @@ pub fn sample_duration(row: &[u64], values: &[f64], at: usize) -> WholeDrawn
 pub fn may_limit(row: &[u64]) -> bool
     ensures { λ r. ⌜ r ≡ mayLimit (now (row .entry)) ⌝ }
 {
-    let action = word(row, ACTION);
-    if action == SEND_PADDING {
-        return true;
-    }
-    if action == BLOCK_OUTGOING {
-        return true;
-    }
-    action == UPDATE_TIMER
+    word(row, ACTION) == SEND_PADDING || has_duration(row)
 }
 
+// Action::has_limit
 pub fn has_limit(row: &[u64]) -> bool
     ensures { λ r. ⌜ r ≡ hasLimit (now (row .entry)) ⌝ }
 {
@@ -106,12 +94,12 @@ pub fn has_limit(row: &[u64]) -> bool
     false
 }
 
-// The limit of a state's action; the largest u64 where there is none.
+// Action::sample_limit; the largest u64, with no draw, where there is no limit.
 pub fn sample_limit(row: &[u64], values: &[f64], at: usize) -> WholeDrawn
     ensures { λ r. ⌜ r ≡ sampleLimit (now (row .entry)) (now (values .entry)) at ⌝ }
 {
     if has_limit(row) {
-        return rounded(sample(dist_at(row, LIMIT), values, at), STATE_LIMIT_MAX);
+        return sample_rounded(row, LIMIT, STATE_LIMIT_MAX, values, at);
     }
     WholeDrawn::GotWhole(Whole {
         value: STATE_LIMIT_MAX,

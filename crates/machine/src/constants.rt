@@ -57,6 +57,11 @@ pub const ABSENT: u64 = 0;
 
 pub const UNIFORM: u64 = 1;
 
+// Refusals of a draw: beyond the tape's end, and one that is not fit.
+pub const NO_DRAW: u64 = 16;
+
+pub const UNFIT_DRAW: u64 = 17;
+
 // Codes of an action.
 pub const CANCEL: u64 = 1;
 

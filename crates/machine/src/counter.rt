@@ -5,12 +5,13 @@ use super::dist::ValueDrawn;
 use super::dist::Whole;
 use super::dist::WholeDrawn;
 ghost use mathlib.Core.Path.{_≡_};
-ghost use Prim.Native.Nat.{_≤_};
+ghost use Prim.Native.Nat.{_+_, _≤_};
+ghost use Rattle.machine.specs.Constants.{stateWords};
 ghost use Rattle.machine.specs.Counter.{sampleValue};
 
 // The value of the counter that begins at word k: cut, not rounded; 1 without a distribution.
 pub fn sample_value(row: &[u64], k: usize, values: &[f64], at: usize) -> WholeDrawn
-    requires { ⌜ k ≤ 56 ⌝ }
+    requires { ⌜ k + 2 ≤ stateWords ⌝ }
     ensures { λ r. ⌜ r ≡ sampleValue (now (row .entry)) k (now (values .entry)) at ⌝ }
 {
     let dist = k + COUNTER_DIST;

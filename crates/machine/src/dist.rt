@@ -1,12 +1,16 @@
 // dist.rs: a distribution, and what is drawn from it.
 use super::constants::ABSENT;
+use super::constants::NO_DRAW;
+use super::constants::UNFIT_DRAW;
 use super::constants::UNIFORM;
 use super::state::word;
 ghost use mathlib.Core.Path.{_≡_};
 ghost use Prim.Native.Nat.{_≤_};
+ghost use Rattle.machine.specs.Constants.{stateWords};
 ghost use Rattle.machine.specs.Dist as Spec;
 
-// The kind of a distribution. Document 01's "drawn outside" stands for the ten kinds other than Uniform.
+// The kind of a distribution. Document 01's "drawn outside" stands for the ten kinds other than
+// Uniform.
 pub enum DistType {
     Absent,
     Uniform(f64, f64),
@@ -44,6 +48,7 @@ pub enum WholeDrawn {
 
 // ---- five words of a row
 
+// Every kind but the first two reads as drawn outside; the table checks leave only 2.
 pub fn dist_type(kind: u64, low: f64, high: f64) -> DistType
     ensures { λ r. ⌜ r ≡ Spec.distType kind low high ⌝ }
 {
@@ -65,7 +70,7 @@ pub fn f64_at(row: &[u64], k: usize) -> f64
 
 // The distribution that begins at word k of a state row.
 pub fn dist_at(row: &[u64], k: usize) -> Dist
-    requires { ⌜ k ≤ 58 ⌝ }
+    requires { ⌜ k ≤ stateWords ⌝ }
     ensures { λ r. ⌜ r ≡ Spec.distAt (now (row .entry)) k ⌝ }
 {
     let dist = dist_type(word(row, k), f64_at(row, k + 1), f64_at(row, k + 2));
@@ -80,6 +85,7 @@ pub fn dist_at(row: &[u64], k: usize) -> Dist
 
 // ---- Dist::validate
 
+// Finite bounds in order, whose difference is finite too.
 pub fn valid_uniform(low: f64, high: f64) -> bool
     ensures { λ r. ⌜ r ≡ Spec.validUniform low high ⌝ }
 {
@@ -94,6 +100,7 @@ pub fn valid_uniform(low: f64, high: f64) -> bool
     false
 }
 
+// Absent, and what is drawn outside, have no parameter to check.
 pub fn validate(d: Dist) -> bool
     ensures { λ r. ⌜ r ≡ Spec.validate d ⌝ }
 {
@@ -125,9 +132,9 @@ pub fn uniform_draw(low: f64, high: f64, values: &[f64], at: usize) -> ValueDraw
                 });
             }
         }
-        return ValueDrawn::NoValue(17);
+        return ValueDrawn::NoValue(UNFIT_DRAW);
     }
-    ValueDrawn::NoValue(16)
+    ValueDrawn::NoValue(NO_DRAW)
 }
 
 // A value drawn outside: 16 past the tape's end.
@@ -140,7 +147,7 @@ pub fn outside_draw(values: &[f64], at: usize) -> ValueDrawn
             at: at + 1,
         })
     } else {
-        ValueDrawn::NoValue(16)
+        ValueDrawn::NoValue(NO_DRAW)
     }
 }
 
@@ -182,12 +189,14 @@ pub fn capped(max: f64, x: f64) -> f64
     x
 }
 
+// A sampled value with the start added, then the two rules above.
 pub fn adjusted(d: Dist, sampled: f64) -> f64
     ensures { λ r. ⌜ r ≡ Spec.adjusted d sampled ⌝ }
 {
     capped(d.max, or_zero(sampled + d.start))
 }
 
+// A value of the distribution, adjusted, or the refusal of its draw.
 pub fn sample(d: Dist, values: &[f64], at: usize) -> ValueDrawn
     ensures { λ r. ⌜ r ≡ Spec.sample d (now (values .entry)) at ⌝ }
 {

@@ -1,12 +1,15 @@
 // state.rs: rows of the state table, a draw of the chance tape, and the choice of a next state.
 use super::constants::EVENTS;
+use super::constants::NO_DRAW;
 use super::constants::STATE_WORDS;
 use super::constants::TRANSITION_WORDS;
+use super::constants::UNFIT_DRAW;
 ghost use mathlib.Core.Path.{_≡_};
 ghost use Prim.Native.Nat.{_*_, _≤_, _<_, min};
 ghost use lib.ListN.{getD};
-ghost use Rattle.machine.specs.Constants.{stateWords};
-ghost use Rattle.machine.specs.State.{rowsOf, stateRow, firstOf, countOf, chanceDraw, sampleState};
+ghost use Rattle.machine.specs.Constants.{eventNum, stateWords};
+ghost use Rattle.machine.specs.State.{rowsOf, stateRow, firstOf, countOf};
+ghost use Rattle.machine.specs.State.{chanceDraw, sampleState};
 
 // A chance that was drawn, and where the chance tape goes on; or the refusal.
 pub enum ChanceDrawn {
@@ -29,8 +32,7 @@ pub fn word(row: &[u64], k: usize) -> u64
     if k < row.len() { row[k] } else { 0 }
 }
 
-// The words of n state rows, of which there are at most `len`. The quotient keeps the product from
-// wrapping.
+// The words that n state rows take, at most `len`. The quotient keeps the product from wrapping.
 pub fn state_words(n: u64, len: usize) -> usize
     ensures is { λ r. ⌜ r ≡ min (n * stateWords) len ⌝ }
     ensures within { λ r. ⌜ r ≤ len ⌝ }
@@ -61,7 +63,7 @@ pub fn state_row(rows: &[u64], state: u64) -> &[u64]
 
 // The first transition row of an event.
 pub fn first_of(row: &[u64], event: u64) -> u64
-    requires { ⌜ event < 13 ⌝ }
+    requires { ⌜ event < eventNum ⌝ }
     ensures { λ r. ⌜ r ≡ firstOf (now (row .entry)) event ⌝ }
 {
     word(row, EVENTS + (event as usize) * 2)
@@ -69,7 +71,7 @@ pub fn first_of(row: &[u64], event: u64) -> u64
 
 // How many transition rows an event has; 0 where it has no row.
 pub fn count_of(row: &[u64], event: u64) -> u64
-    requires { ⌜ event < 13 ⌝ }
+    requires { ⌜ event < eventNum ⌝ }
     ensures { λ r. ⌜ r ≡ countOf (now (row .entry)) event ⌝ }
 {
     word(row, EVENTS + (event as usize) * 2 + 1)
@@ -88,9 +90,9 @@ pub fn chance_draw(chances: &[f32], at: usize) -> ChanceDrawn
                 return ChanceDrawn::GotChance(c, at + 1);
             }
         }
-        return ChanceDrawn::NoChance(17);
+        return ChanceDrawn::NoChance(UNFIT_DRAW);
     }
-    ChanceDrawn::NoChance(16)
+    ChanceDrawn::NoChance(NO_DRAW)
 }
 
 // ---- State::sample_state

@@ -1,4 +1,5 @@
--- `has_limit` meets its contract: what `may_limit` and `word` ensure, put together. Assumes nothing.
+-- `has_limit` meets its contract: what `may_limit` and `word` ensure, put together.
+-- Assumes nothing.
 use borrow.Author.Needs.{needs}
 use mathlib.Core.Path.{sym, _∙_}
 use Rattle.machine.specs.Action.{hasLimit}

@@ -33,11 +33,22 @@ cut-requires c κs = search needs
 
 returns-2 : tie.Need-returns-2
 unfolding sampleValue
-returns-2 c = rw (ne-eqb _ _ (λ e. c .before .before .before .before .before .if1 .left (c .before .before .before .before .before .before .word .ensures ∙ e)), rw (c .before .before .before .before .dist-at .ensures) at (sym (c .before .before .before .sample .ensures) ∙ c .before .drawn .given .1))
+returns-2 c =
+    let w = c .before .before .before .before .before .before .word .ensures in
+    let present = c .before .before .before .before .before .if1 .left in
+    let d = c .before .before .before .before .dist-at .ensures in
+    let x = sym (c .before .before .before .sample .ensures) ∙ c .before .drawn .given .1 in
+    rw (ne-eqb _ _ (λ e. present (w ∙ e)), rw d at x)
 
 returns-3 : tie.Need-returns-3
 unfolding sampleValue
-returns-3 c = rw (ne-eqb _ _ (λ e. c .before .before .before .before .before .before .if1 .left (c .before .before .before .before .before .before .before .word .ensures ∙ e)), rw (c .before .before .before .before .before .dist-at .ensures) at (sym (c .before .before .before .before .sample .ensures) ∙ c .before .before .drawn2 .given .1), c .cut .ensures)
+returns-3 c =
+    let w = c .before .before .before .before .before .before .before .word .ensures in
+    let present = c .before .before .before .before .before .before .if1 .left in
+    let d = c .before .before .before .before .before .dist-at .ensures in
+    let s = c .before .before .before .before .sample .ensures in
+    let x = sym s ∙ c .before .before .drawn2 .given .1 in
+    rw (ne-eqb _ _ (λ e. present (w ∙ e)), rw d at x, c .cut .ensures)
 
 pub sample-value-spec : {M : Type 1} → statement M
 sample-value-spec =

@@ -1,4 +1,5 @@
--- `capped` meets its contract: the code's tests in their order are those of the definition. Assumes nothing.
+-- `capped` meets its contract: the code's tests in their order are those of the definition.
+-- Assumes nothing.
 use Rattle.machine.specs.Dist.{capped}
 use Rattle.machine.proofs.dist.capped.Statement.{statement}
 use Rattle.machine.proofs.dist.capped.Tie as tie

@@ -1,4 +1,5 @@
--- `dist_at` meets its contract: each part of the record is what its function ensures. Assumes nothing.
+-- `dist_at` meets its contract: each part of the record is what its function ensures.
+-- Assumes nothing.
 use borrow.Author.Needs.{needs}
 use Rattle.machine.specs.Dist.{distAt}
 use Rattle.machine.proofs.dist.dist_at.Statement.{statement}
@@ -36,7 +37,12 @@ f64-at-requires-4 c κs = search needs
 
 returns : tie.Need-returns
 unfolding distAt
-returns c = rw (c .before .before .dist-type .ensures, c .before .before .before .before .before .word .ensures, c .before .before .before .before .f64-at .ensures, c .before .before .before .f64-at2 .ensures, c .before .f64-at3 .ensures, c .f64-at4 .ensures)
+returns c =
+    let kind = c .before .before .before .before .before .word .ensures in
+    let low = c .before .before .before .before .f64-at .ensures in
+    let high = c .before .before .before .f64-at2 .ensures in
+    let start = c .before .f64-at3 .ensures in
+    rw (c .before .before .dist-type .ensures, kind, low, high, start, c .f64-at4 .ensures)
 
 pub dist-at-spec : {M : Type 1} → statement M
 dist-at-spec =

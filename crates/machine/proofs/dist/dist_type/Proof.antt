@@ -1,4 +1,5 @@
--- `dist_type` meets its contract: the code's tests in their order are those of the definition. Assumes nothing.
+-- `dist_type` meets its contract: the code's tests in their order are those of the definition.
+-- Assumes nothing.
 use borrow.Author.Tests.{eq-eqb, ne-eqb}
 use Rattle.machine.specs.Dist.{distType}
 use Rattle.machine.proofs.dist.dist_type.Statement.{statement}

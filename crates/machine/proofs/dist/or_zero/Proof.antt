@@ -1,4 +1,5 @@
--- `or_zero` meets its contract: the code's tests in their order are those of the definition. Assumes nothing.
+-- `or_zero` meets its contract: the code's tests in their order are those of the definition.
+-- Assumes nothing.
 use borrow.Author.Needs.{needs}
 use mathlib.Core.Path.{sym, _∙_}
 use Rattle.machine.specs.Dist.{orZero}

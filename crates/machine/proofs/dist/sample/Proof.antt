@@ -23,7 +23,9 @@ returns c = rw (sym (c .before .before .before .dist-sample .ensures) ∙ c .bef
 
 returns-2 : tie.Need-returns-2
 unfolding sample
-returns-2 c = rw (sym (c .before .before .before .before .dist-sample .ensures) ∙ c .before .before .drawn2 .given .1, c .adjusted .ensures)
+returns-2 c =
+    let d = c .before .before .before .before .dist-sample .ensures in
+    rw (sym d ∙ c .before .before .drawn2 .given .1, c .adjusted .ensures)
 
 pub sample-spec : {M : Type 1} → statement M
 sample-spec =

@@ -1,4 +1,5 @@
--- `uniform_draw` meets its contract: the code's tests in their order are those of the definition. Assumes nothing.
+-- `uniform_draw` meets its contract: the code's tests in their order are those of the definition.
+-- Assumes nothing.
 use borrow.Author.Needs.{needs}
 use borrow.Author.Tests.{lt-ltb, le-ltb}
 use Rattle.machine.specs.Dist.{uniformDraw}
@@ -20,15 +21,21 @@ add-t14 c = search needs
 
 returns-2 : tie.Need-returns-2
 unfolding uniformDraw
-returns-2 c = rw (c .before .before .before .before .if1 .left, lt-ltb _ _ (c .before .before .before .if2 .taken), c .before .if3 .taken, c .if4 .taken)
+returns-2 c =
+    let on-tape = lt-ltb _ _ (c .before .before .before .if2 .taken) in
+    rw (c .before .before .before .before .if1 .left, on-tape, c .before .if3 .taken, c .if4 .taken)
 
 returns-3 : tie.Need-returns-3
 unfolding uniformDraw
-returns-3 c = rw (c .before .before .before .before .if1 .left, lt-ltb _ _ (c .before .before .before .if2 .taken), c .before .if3 .taken, c .if4 .left)
+returns-3 c =
+    let on-tape = lt-ltb _ _ (c .before .before .before .if2 .taken) in
+    rw (c .before .before .before .before .if1 .left, on-tape, c .before .if3 .taken, c .if4 .left)
 
 returns-4 : tie.Need-returns-4
 unfolding uniformDraw
-returns-4 c = rw (c .before .before .before .if1 .left, lt-ltb _ _ (c .before .before .if2 .taken), c .if3 .left)
+returns-4 c =
+    let on-tape = lt-ltb _ _ (c .before .before .if2 .taken) in
+    rw (c .before .before .before .if1 .left, on-tape, c .if3 .left)
 
 returns-5 : tie.Need-returns-5
 unfolding uniformDraw

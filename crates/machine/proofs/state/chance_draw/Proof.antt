@@ -1,4 +1,5 @@
--- `chance_draw` meets its contract: the code's tests in their order are those of the definition. Assumes nothing.
+-- `chance_draw` meets its contract: the code's tests in their order are those of the definition.
+-- Assumes nothing.
 use borrow.Author.Needs.{needs}
 use borrow.Author.Tests.{lt-ltb, le-ltb}
 use Rattle.machine.specs.State.{chanceDraw}
@@ -16,11 +17,15 @@ add-t11 c = search needs
 
 returns : tie.Need-returns
 unfolding chanceDraw
-returns c = rw (lt-ltb _ _ (c .before .before .before .if1 .taken), c .before .if2 .taken, c .if3 .taken)
+returns c =
+    let on-tape = lt-ltb _ _ (c .before .before .before .if1 .taken) in
+    rw (on-tape, c .before .if2 .taken, c .if3 .taken)
 
 returns-2 : tie.Need-returns-2
 unfolding chanceDraw
-returns-2 c = rw (lt-ltb _ _ (c .before .before .before .if1 .taken), c .before .if2 .taken, c .if3 .left)
+returns-2 c =
+    let on-tape = lt-ltb _ _ (c .before .before .before .if1 .taken) in
+    rw (on-tape, c .before .if2 .taken, c .if3 .left)
 
 returns-3 : tie.Need-returns-3
 unfolding chanceDraw

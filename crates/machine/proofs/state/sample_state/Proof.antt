@@ -1,5 +1,5 @@
--- `sample_state` meets its contract. The invariant: the whole walk is what is left of it, from row i on with the sum so far.
--- Assumes nothing.
+-- `sample_state` meets its contract. The invariant: the whole walk is what is left of it, from row
+-- i on with the sum so far. Assumes nothing.
 use borrow.Author.Needs.{needs}
 use Prim.Native.Nat.{_+_, _-_, _≤_}
 use mathlib.Core.Path.{_≡_, sym, _∙_}
@@ -13,16 +13,22 @@ use Rattle.machine.proofs.state.sample_state.Statement.{statement}
 use Rattle.machine.proofs.state.sample_state.Tie as tie
 
 abbrev Inv-loop : tie.InvT-loop
-Inv-loop transitions first count draw rows start n end i₀ sum₀ i sum = (i ≤ end) × (walk transitions first count (ofBits binary32 0) draw ≡ walk transitions i (end - i) sum draw)
+Inv-loop transitions first count draw rows start n end i₀ sum₀ i sum =
+    (i ≤ end) ×
+    (walk transitions first count (ofBits binary32 0) draw ≡ walk transitions i (end - i) sum draw)
 
 abbrev μ-loop : tie.MeasureT-loop
 μ-loop transitions first count draw rows start n end i₀ sum₀ i sum = end - i
 
 returns : tie.Need-returns Inv-loop μ-loop
-returns c = sym (row-beyond (now (c .before .before .args .transitions)) (c .before .before .args .first) (c .before .before .args .count) (c .before .before .args .draw) (omega arith))
+returns c =
+    let a = c .before .before .args in
+    sym (row-beyond (now (a .transitions)) (a .first) (a .count) (a .draw) (omega arith))
 
 returns-2 : tie.Need-returns-2 Inv-loop μ-loop
-returns-2 c = sym (row-beyond (now (c .before .before .before .args .transitions)) (c .before .before .before .args .first) (c .before .before .before .args .count) (c .before .before .before .args .draw) (omega arith))
+returns-2 c =
+    let a = c .before .before .before .args in
+    sym (row-beyond (now (a .transitions)) (a .first) (a .count) (a .draw) (omega arith))
 
 add-end : tie.Need-add-end Inv-loop μ-loop
 add-end c = search needs
@@ -62,22 +68,27 @@ loop-again c =
     let a = c .before .before .before .before .before .before .before .before .args in
     let l = c .before .before .before .before .loop in
     let p = c .before .f32-of-word .ensures in
-    let more = walk-on (now (a .transitions)) (l .i) (a .first + a .count) (l .sum) (a .draw) (c .before .before .before .if3 .left) (rw p at (c .if4 .left)) in
-    (search needs, l .inv .1 ∙ rw p more)
+    let more = walk-on (now (a .transitions)) (l .i) (a .first + a .count) (l .sum) (a .draw) in
+    let passed = rw p at (c .if4 .left) in
+    (search needs, l .inv .1 ∙ rw p (more (c .before .before .before .if3 .left) passed))
 
 returns-3 : tie.Need-returns-3 Inv-loop μ-loop
 returns-3 c =
     let a = c .before .before .before .before .before .args in
     let l = c .before .loop in
-    let none = walk-ends (now (a .transitions)) (l .i) (a .first + a .count) (l .sum) (a .draw) (c .if3 .taken) in
-    sym (row-within (now (a .transitions)) (a .first) (a .count) (a .draw) (omega arith) ∙ l .inv .1 ∙ none)
+    let whole = row-within (now (a .transitions)) (a .first) (a .count) (a .draw) (omega arith) in
+    let none = walk-ends (now (a .transitions)) (l .i) (a .first + a .count) (l .sum) (a .draw) in
+    sym (whole ∙ l .inv .1 ∙ none (c .if3 .taken))
 
 returns-4 : tie.Need-returns-4 Inv-loop μ-loop
 returns-4 c =
     let a = c .before .before .before .before .before .before .before .before .before .args in
     let l = c .before .before .before .before .before .loop in
-    let found = walk-stops (now (a .transitions)) (l .i) (a .first + a .count) (l .sum) (a .draw) (c .before .before .before .before .if3 .left) (rw (c .before .before .f32-of-word .ensures) at (c .before .if4 .taken)) in
-    sym (row-within (now (a .transitions)) (a .first) (a .count) (a .draw) (omega arith) ∙ l .inv .1 ∙ found)
+    let p = c .before .before .f32-of-word .ensures in
+    let whole = row-within (now (a .transitions)) (a .first) (a .count) (a .draw) (omega arith) in
+    let found = walk-stops (now (a .transitions)) (l .i) (a .first + a .count) (l .sum) (a .draw) in
+    let exceeds = rw p at (c .before .if4 .taken) in
+    sym (whole ∙ l .inv .1 ∙ found (c .before .before .before .before .if3 .left) exceeds)
 
 pub sample-state-spec : {M : Type 1} → statement M
 sample-state-spec =

@@ -1,4 +1,5 @@
--- `state_rows` meets its contract: start and end, cut at the table's length, give the part that was asked for. Assumes nothing.
+-- `state_rows` meets its contract: start and end, cut at the table's length, give the part that was
+-- asked for. Assumes nothing.
 use borrow.Author.Needs.{needs}
 use Prim.Native.Nat.{_*_}
 use native.Mathlib.Nat.{add-sub-cancel-left}
@@ -36,8 +37,11 @@ part-result-end c = search needs
 returns : tie.Need-returns
 unfolding rowsOf
 returns c =
-    simp (add-sub-cancel-left, c .before .state-words2 .ensures .0, c .before .before .state-words .ensures .0)
-    (part-cut (now (c .before .before .before .before .args .states)) (c .before .before .before .before .args .first * stateWords) (c .before .before .before .before .args .count * stateWords))
+    let a = c .before .before .before .before .args in
+    let start = c .before .before .state-words .ensures .0 in
+    let words = c .before .state-words2 .ensures .0 in
+    simp (add-sub-cancel-left, words, start)
+    (part-cut (now (a .states)) (a .first * stateWords) (a .count * stateWords))
 
 pub state-rows-spec : {M : Type 1} → statement M
 state-rows-spec =

@@ -16,7 +16,9 @@ returns : tie.Need-returns
 returns c = search needs
 
 returns-2 : tie.Need-returns-2
-returns-2 c = sym (List·getD-eq-default (now (c .before .args .row)) 0 {n = c .before .args .k} (c .if1 .left))
+returns-2 c =
+    let a = c .before .args in
+    sym (List·getD-eq-default (now (a .row)) 0 {n = a .k} (c .if1 .left))
 
 pub word-spec : {M : Type 1} → statement M
 word-spec = tie.close (tie.spec mul-result shared-slice-read-result returns returns-2)
