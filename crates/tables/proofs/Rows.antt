@@ -1,12 +1,14 @@
 -- A row of transitions, one turn of its loop at a time: the refusals and the sum together. Assumes nothing.
-use Prim.Native.Nat.{ℕ, zero, suc, _+_, _-_, _≤_, _<_}
+use Prim.Native.Nat.{ℕ, zero, suc, _+_, _*_, _-_, _≤_, _<_}
 use mathlib.Core.Path.{_≡_, refl, sym, ap, _∙_}
 use mathlib.Core.List.{List}
 use native.Mathlib.Omega.{arith}
+use lib.ListN.{length}
+use borrow.Author.Tests.{ne-eqb, le-leb, lt-leb}
 use lib.Ieee.{Float, binary32, ofBits, add}
 use Rattle.machine.specs.State.{probabilityAt}
 use Rattle.tables.specs.First.{orElse, firstRefusal}
-use Rattle.tables.specs.State.{transitionRefusal, seenBefore, sumFrom, sumRefusal, rowRefusal}
+use Rattle.tables.specs.State.{transitionRefusal, seenBefore, sumFrom, sumRefusal, rowRefusal, pairRefusal}
 use Rattle.tables.proofs.First.{second, former, first-on, first-here, first-end}
 
 -- the refusal of transition i of a row that begins at `first`
@@ -37,3 +39,13 @@ module _ (ts : List ℕ) (n first e i : ℕ) (sum : Float) where
   pub row-ends : e ≤ i → rest ts n first e i sum ≡ sumRefusal sum
   unfolding rest sumFrom
   row-ends h = let none : e - i ≡ zero = omega arith in rw (first-end (at ts n first) e i h, none) (second refl)
+
+-- ---- a pair (first, count)
+module _ (ts : List ℕ) (n first count : ℕ) (some : count ≡ 0 → ⊥) where
+  pub beyond : length ts < (first + count) * 2 → 8 ≡ pairRefusal ts n first count
+  unfolding pairRefusal
+  beyond h = rw (ne-eqb count 0 some, lt-leb _ _ h)
+
+  pub within : (first + count) * 2 ≤ length ts → rowRefusal ts n first (first + count - first) ≡ pairRefusal ts n first count
+  unfolding pairRefusal
+  within h = let e : first + count - first ≡ count = omega arith in rw (ne-eqb count 0 some, le-leb _ _ h, e)

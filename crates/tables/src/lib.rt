@@ -8,6 +8,7 @@ ghost use mathlib.Core.Path.{_≡_};
 ghost use Rattle.tables.specs.Framework.{isFraction, fractionsRefusal};
 ghost use Rattle.tables.specs.Machine.{tablesRefusal};
 
+pub mod marks; // the targets met in a long row
 pub mod row; // state.rs: a row of transitions
 pub mod state; // state.rs: a state
 pub mod machine_row; // machine.rs

@@ -1,5 +1,6 @@
 // state.rs, `State::validate`: refusals 9 to 13 of a row of transitions, in one pass. `n` is the
 // number of the machine's states.
+use super::marks;
 use machine::constants::STATE_END;
 use machine::constants::STATE_SIGNAL;
 use machine::constants::TRANSITION_WORDS;
@@ -10,7 +11,7 @@ ghost use lib.ListN.{length, getD};
 ghost use Rattle.machine.specs.Constants.{stateMax};
 ghost use Rattle.machine.specs.State.{targetAt};
 ghost use Rattle.tables.specs.State as Spec;
-ghost use Rattle.tables.specs.Marks.{markOf};
+ghost use Rattle.tables.specs.Marks.{isMarked};
 
 // ---- one transition
 
@@ -108,58 +109,43 @@ fn check_short_row(transitions: &[u64], n: u64, first: usize, end: usize) -> u64
 
 // ---- long rows: mark the targets that were met
 
-// The mark of a target: its state's number, then END and SIGNAL.
-fn mark_of(n: u64, target: u64) -> usize
-    requires { ⌜ n ≤ stateMax ⌝ }
-    ensures is { λ r. ⌜ r ≡ markOf n target ⌝ }
-    ensures within { λ r. ⌜ r < n + 2 ⌝ }
-{
-    if target < n {
-        return target as usize;
-    }
-    let ended = n as usize;
-    if target == STATE_END {
-        return ended;
-    }
-    ended + 1
-}
-
-// With a clear mark for each target there is, lent by the next two functions.
-fn check_marked_row(transitions: &[u64], n: u64, first: usize, end: usize, marks: &mut [bool]) -> u64
-    requires { ⌜ n ≤ stateMax ⌝ ∗ ⌜ first ≤ end ⌝ ∗ ⌜ end * 2 ≤ length (now transitions) ⌝ ∗ ⌜ n + 2 ≤ length (now marks) ⌝ ∗ ⌜ ((k : ℕ) → getD (now marks) k false ≡ false) ⌝ }
+// With a clear mark for each target that there is.
+fn check_marked_row(transitions: &[u64], n: u64, first: usize, end: usize, marks: &mut [u64]) -> u64
+    requires { ⌜ n ≤ stateMax ⌝ ∗ ⌜ first ≤ end ⌝ ∗ ⌜ end * 2 ≤ length (now transitions) ⌝ ∗ ⌜ n + 2 ≤ length (now marks) * 64 ⌝ ∗ ⌜ ((m : ℕ) → isMarked (now marks) m ≡ false) ⌝ }
     ensures { λ r. ⌜ r ≡ Spec.rowRefusal (now (transitions .entry)) n first (end - first) ⌝ }
 {
     let mut sum: f32 = 0.0;
     let mut i = first;
     while i < end {
         let at = i * TRANSITION_WORDS;
-        let mark = mark_of(n, transitions[at]);
-        let refusal = check_transition(transitions, n, i, marks[mark]);
+        let m = marks::mark_of(n, transitions[at]);
+        let seen = marks::is_marked(marks, m);
+        let refusal = check_transition(transitions, n, i, seen);
         if refusal != 0 {
             return refusal;
         }
-        marks[mark] = true;
+        marks::mark(marks, m);
         sum = sum + numbers::f32_of_word(transitions[at + 1]);
         i = i + 1;
     }
     check_sum(sum)
 }
 
-// A row of a machine with few states.
+// A row of a machine with up to 1,022 states: fewer marks to clear.
 fn check_row_of_few(transitions: &[u64], n: u64, first: usize, end: usize) -> u64
-    requires { ⌜ n + 2 ≤ 1024 ⌝ ∗ ⌜ first ≤ end ⌝ ∗ ⌜ end * 2 ≤ length (now transitions) ⌝ }
+    requires { ⌜ n ≤ 1022 ⌝ ∗ ⌜ first ≤ end ⌝ ∗ ⌜ end * 2 ≤ length (now transitions) ⌝ }
     ensures { λ r. ⌜ r ≡ Spec.rowRefusal (now (transitions .entry)) n first (end - first) ⌝ }
 {
-    let mut marks = [false; 1024];
+    let mut marks = [0; 16];
     check_marked_row(transitions, n, first, end, &mut marks)
 }
 
-// A row of a machine with any number of states.
+// A row of any machine.
 fn check_row_of_many(transitions: &[u64], n: u64, first: usize, end: usize) -> u64
     requires { ⌜ n ≤ stateMax ⌝ ∗ ⌜ first ≤ end ⌝ ∗ ⌜ end * 2 ≤ length (now transitions) ⌝ }
     ensures { λ r. ⌜ r ≡ Spec.rowRefusal (now (transitions .entry)) n first (end - first) ⌝ }
 {
-    let mut marks = [false; 100002];
+    let mut marks = [0; 1563];
     check_marked_row(transitions, n, first, end, &mut marks)
 }
 
