@@ -4,7 +4,7 @@ use mathlib.Core.Bool.{Bool, cond, _&&_}
 use lib.Ieee.{Float, binary64, ofBits, le}
 
 -- 0.0 to 1.0; a NaN is not, -0.0 is
-abbrev pub isFraction : Float → Bool
+unfoldable pub isFraction : Float → Bool
 isFraction x = le (ofBits binary64 0) x && le x (ofBits binary64 0x3ff0_0000_0000_0000)
 
 -- Refusals 1 (padding) and 2 (blocking).

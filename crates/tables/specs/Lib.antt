@@ -3,3 +3,4 @@ pub mod First
 pub mod State
 pub mod Machine
 pub mod Framework
+pub mod Marks

@@ -12,15 +12,19 @@ use Rattle.tables.specs.First.{firstRefusal}
 use Rattle.tables.specs.State.{stateRefusal}
 
 -- below 0 or above 1; a NaN is neither
-abbrev pub beyondFraction : Float → Bool
+unfoldable pub beyondFraction : Float → Bool
 beyondFraction x = lt x (ofBits binary64 0) || lt (ofBits binary64 0x3ff0_0000_0000_0000) x
 
--- Refusals 6 to 15 of n states from row `first` on: their number, their place, then state by state.
+-- Refusals 8 to 15 of n states, state by state; `rows` is their part of the state table.
+unfoldable pub eachState : List ℕ → ℕ → List ℕ → ℕ
+eachState ts n rows = firstRefusal (λ state. stateRefusal ts n (stateRow rows state)) n 0
+
+-- Refusals 6 to 15 of n states from row `first` on: their number, their place, then each.
 unfoldable pub statesRefusal : List ℕ → List ℕ → ℕ → ℕ → ℕ
 statesRefusal states ts first n =
     cond (eqb n 0 || ltb stateMax n) 6
     (cond (leb ((first + n) * stateWords) (length states))
-    (firstRefusal (λ state. stateRefusal ts n (stateRow (rowsOf stateWords states first n) state)) n 0)
+    (eachState ts n (rowsOf stateWords states first n))
     7)
 
 -- Refusals 4 to 15 of the machine with these six words.
@@ -31,7 +35,7 @@ machineRefusal states ts row =
     (statesRefusal states ts (getD row firstState 0) (getD row numStates 0)))
 
 -- each table is whole rows, of at most 16 machines
-abbrev pub wholeTables : List ℕ → List ℕ → List ℕ → Bool
+unfoldable pub wholeTables : List ℕ → List ℕ → List ℕ → Bool
 wholeTables machines states ts =
     eqb (length machines % machineWords) 0 && eqb (length states % stateWords) 0
     && eqb (length ts % transitionWords) 0 && leb (length machines / machineWords) machineMax

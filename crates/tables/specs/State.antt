@@ -18,37 +18,45 @@ abbrev pub probabilityWord : List ℕ → ℕ → ℕ
 probabilityWord ts i = getD ts (i * transitionWords + 1) 0
 
 -- a state of the machine, or a special one
-abbrev pub isTarget : ℕ → ℕ → Bool
+unfoldable pub isTarget : ℕ → ℕ → Bool
 isTarget n target = ltb target n || eqb target stateEnd || eqb target stateSignal
 
+-- at or below 0, or above 1; a NaN is neither
+unfoldable pub improbable : Float → Bool
+improbable p = le p (ofBits binary32 0) || lt (ofBits binary32 0x3f80_0000) p
+
+-- Refusals 9 to 12 of transition i; `seen`: its target stood in its row before.
+unfoldable pub transitionRefusal : List ℕ → ℕ → ℕ → Bool → ℕ
+transitionRefusal ts n i seen =
+    cond (leb 4294967296 (probabilityWord ts i)) 9
+    (cond (isTarget n (targetAt ts i))
+    (cond seen 11 (cond (improbable (probabilityAt ts i)) 12 0))
+    10)
+
+-- ---- a row of transitions
 -- whether one of k transitions from row j on has this target
 unfoldable pub seenIn : List ℕ → ℕ → ℕ → ℕ → Bool
 seenIn ts target zero j = false
 seenIn ts target (suc k) j = eqb (targetAt ts j) target || seenIn ts target k (j + 1)
 
--- at or below 0, or above 1; a NaN is neither
-abbrev pub improbable : Float → Bool
-improbable p = le p (ofBits binary32 0) || lt (ofBits binary32 0x3f80_0000) p
+-- whether transition i has the target of an earlier one, of a row that begins at `first`
+abbrev pub seenBefore : List ℕ → ℕ → ℕ → Bool
+seenBefore ts first i = seenIn ts (targetAt ts i) (i - first) first
 
--- Refusals 9 to 12 of transition i, of a row that begins at `first`.
-unfoldable pub transitionRefusal : List ℕ → ℕ → ℕ → ℕ → ℕ
-transitionRefusal ts n first i =
-    cond (leb 4294967296 (probabilityWord ts i)) 9
-    (cond (not (isTarget n (targetAt ts i))) 10
-    (cond (seenIn ts (targetAt ts i) (i - first) first) 11
-    (cond (improbable (probabilityAt ts i)) 12 0)))
-
--- ---- a row of transitions
 -- the f32 sum of k probabilities from row i on, added in order
 unfoldable pub sumFrom : List ℕ → ℕ → ℕ → Float → Float
 sumFrom ts i zero sum = sum
 sumFrom ts i (suc k) sum = sumFrom ts (i + 1) k (add binary32 sum (probabilityAt ts i))
 
+-- Refusal 13.
+unfoldable pub sumRefusal : Float → ℕ
+sumRefusal sum = cond (improbable sum) 13 0
+
 -- Refusals 9 to 13 of a row within the table: transition by transition, then the sum.
 unfoldable pub rowRefusal : List ℕ → ℕ → ℕ → ℕ → ℕ
 rowRefusal ts n first count =
-    orElse (firstRefusal (transitionRefusal ts n first) count first)
-    (cond (improbable (sumFrom ts first count (ofBits binary32 0))) 13 0)
+    orElse (firstRefusal (λ i. transitionRefusal ts n i (seenBefore ts first i)) count first)
+    (sumRefusal (sumFrom ts first count (ofBits binary32 0)))
 
 -- Refusals 8 to 13 of the pair (first, count); with count 0 there is no row, whatever `first` says.
 unfoldable pub pairRefusal : List ℕ → ℕ → ℕ → ℕ → ℕ
@@ -57,59 +65,65 @@ pairRefusal ts n first count =
     (cond (leb ((first + count) * transitionWords) (length ts)) (rowRefusal ts n first count) 8)
 
 -- ---- codes: an unknown one in a used field, or a distribution that the action needs and that is absent
-abbrev pub kindUnknown : List ℕ → ℕ → Bool
-kindUnknown row k = ltb 2 (getD row k 0)
+-- a distribution's kind: 0 absent, 1 Uniform, 2 drawn outside
+abbrev pub kindUnknown : ℕ → Bool
+kindUnknown kind = ltb 2 kind
 
--- kind 0 is absent
-abbrev pub neededUnknown : List ℕ → ℕ → Bool
-neededUnknown row k = eqb (getD row k 0) 0 || kindUnknown row k
+unfoldable pub neededUnknown : ℕ → Bool
+neededUnknown kind = eqb kind 0 || kindUnknown kind
 
--- flags are bypass 1 and replace 2
-abbrev pub flagsUnknown : List ℕ → Bool
-flagsUnknown row = ltb 3 (getD row flags 0)
+-- what every action but Cancel uses: flags (bypass 1 and replace 2) and a limit, which may be absent
+unfoldable pub commonUnknown : List ℕ → Bool
+commonUnknown row = ltb 3 (getD row flags 0) || kindUnknown (getD row limit 0)
 
--- of the action: Cancel uses the timer alone, the others their flags and distributions
+-- Cancel uses its timer alone
 unfoldable pub actionUnknown : List ℕ → Bool
 actionUnknown row =
     cond (eqb (actionOf row) 0) false
     (cond (eqb (actionOf row) cancel) (ltb 2 (getD row timer 0))
     (cond (eqb (actionOf row) sendPadding)
-    (flagsUnknown row || neededUnknown row timeout || kindUnknown row limit)
+    (commonUnknown row || neededUnknown (getD row timeout 0))
     (cond (eqb (actionOf row) blockOutgoing)
-    (flagsUnknown row || neededUnknown row timeout || neededUnknown row duration || kindUnknown row limit)
+    (commonUnknown row || neededUnknown (getD row timeout 0) || neededUnknown (getD row duration 0))
     (cond (eqb (actionOf row) updateTimer)
-    (flagsUnknown row || neededUnknown row duration || kindUnknown row limit) true))))
+    (commonUnknown row || neededUnknown (getD row duration 0))
+    true))))
 
--- of the counter at word k: operation, copy, and the distribution's kind, even under copy
+-- the counter at word k: operation, copy, and the distribution's kind, even under copy
 unfoldable pub counterUnknown : List ℕ → ℕ → Bool
 counterUnknown row k =
     cond (eqb (getD row k 0) 0) false
-    (ltb 3 (getD row k 0) || ltb 1 (getD row (k + 1) 0) || kindUnknown row (k + 2))
+    (ltb 3 (getD row k 0) || ltb 1 (getD row (k + 1) 0) || kindUnknown (getD row (k + 2) 0))
+
+unfoldable pub codesUnknown : List ℕ → Bool
+codesUnknown row = actionUnknown row || counterUnknown row counterA || counterUnknown row counterB
 
 -- ---- distributions
-abbrev pub invalid : List ℕ → ℕ → Bool
+unfoldable pub invalid : List ℕ → ℕ → Bool
 invalid row k = not (validate (distAt row k))
 
--- Action::validate
+-- not Action::validate
 unfoldable pub actionInvalid : List ℕ → Bool
 actionInvalid row =
     cond (eqb (actionOf row) sendPadding) (invalid row timeout || invalid row limit)
     (cond (eqb (actionOf row) blockOutgoing) (invalid row timeout || invalid row duration || invalid row limit)
     (cond (eqb (actionOf row) updateTimer) (invalid row duration || invalid row limit) false))
 
--- Counter::validate of the counter at word k
+-- not Counter::validate, of the counter at word k
 unfoldable pub counterInvalid : List ℕ → ℕ → Bool
 counterInvalid row k = cond (eqb (getD row k 0) 0) false (invalid row (k + 2))
 
--- ---- a state
--- Refusals 14 and 15, each over the action, counter A and counter B.
-unfoldable pub fieldsRefusal : List ℕ → ℕ
-fieldsRefusal row =
-    cond (actionUnknown row || counterUnknown row counterA || counterUnknown row counterB) 14
-    (cond (actionInvalid row || counterInvalid row counterA || counterInvalid row counterB) 15 0)
+unfoldable pub distsInvalid : List ℕ → Bool
+distsInvalid row = actionInvalid row || counterInvalid row counterA || counterInvalid row counterB
 
--- Refusals 8 to 15: event by event, then the fields.
+-- ---- a state
+-- Refusals 8 to 13, event by event.
+unfoldable pub eventsRefusal : List ℕ → ℕ → List ℕ → ℕ
+eventsRefusal ts n row =
+    firstRefusal (λ event. pairRefusal ts n (firstOf row event) (countOf row event)) eventNum 0
+
+-- Refusals 8 to 15: the events; then 14 over action, counter A and counter B; then 15 over the same.
 unfoldable pub stateRefusal : List ℕ → ℕ → List ℕ → ℕ
 stateRefusal ts n row =
-    orElse (firstRefusal (λ event. pairRefusal ts n (firstOf row event) (countOf row event)) eventNum 0)
-    (fieldsRefusal row)
+    orElse (eventsRefusal ts n row)
+    (cond (codesUnknown row) 14 (cond (distsInvalid row) 15 0))

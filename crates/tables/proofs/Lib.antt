@@ -1,0 +1,6 @@
+pub mod First
+pub mod Rows
+pub mod Dists
+pub mod Bits
+pub mod Seen
+pub mod Parts

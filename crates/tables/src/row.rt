@@ -1,0 +1,166 @@
+// state.rs, `State::validate`: refusals 9 to 13 of a row of transitions, in one pass. `n` is the
+// number of the machine's states.
+use super::marks;
+use machine::constants::STATE_END;
+use machine::constants::STATE_SIGNAL;
+use machine::constants::TRANSITION_WORDS;
+ghost use mathlib.Core.Path.{_≡_};
+ghost use mathlib.Core.Bool.{false};
+ghost use Prim.Native.Nat.{ℕ, _+_, _-_, _*_, _≤_, _<_};
+ghost use lib.ListN.{length, getD};
+ghost use Rattle.machine.specs.Constants.{stateMax};
+ghost use Rattle.machine.specs.State.{targetAt};
+ghost use Rattle.tables.specs.State as Spec;
+ghost use Rattle.tables.specs.Marks.{isMarked};
+
+// ---- one transition
+
+// A state of the machine, or a special one.
+fn is_target(n: u64, target: u64) -> bool
+    ensures { λ r. ⌜ r ≡ Spec.isTarget n target ⌝ }
+{
+    if target < n {
+        return true;
+    }
+    if target == STATE_END {
+        return true;
+    }
+    target == STATE_SIGNAL
+}
+
+// At or below 0, or above 1: a NaN passes.
+fn improbable(p: f32) -> bool
+    ensures { λ r. ⌜ r ≡ Spec.improbable p ⌝ }
+{
+    if p <= 0.0 {
+        return true;
+    }
+    p > 1.0
+}
+
+// Refusals 9 to 12 of transition i; `seen`: its target stood in its row before.
+fn check_transition(transitions: &[u64], n: u64, i: usize, seen: bool) -> u64
+    requires { ⌜ (i + 1) * 2 ≤ length (now transitions) ⌝ }
+    ensures { λ r. ⌜ r ≡ Spec.transitionRefusal (now (transitions .entry)) n i seen ⌝ }
+{
+    let at = i * TRANSITION_WORDS;
+    let word = transitions[at + 1];
+    if word >= 4294967296 {
+        return 9;
+    }
+    if is_target(n, transitions[at]) {
+        if seen {
+            return 11;
+        }
+        if improbable(numbers::f32_of_word(word)) {
+            return 12;
+        }
+        return 0;
+    }
+    10
+}
+
+// Refusal 13.
+fn check_sum(sum: f32) -> u64
+    ensures { λ r. ⌜ r ≡ Spec.sumRefusal sum ⌝ }
+{
+    if improbable(sum) {
+        return 13;
+    }
+    0
+}
+
+// ---- short rows: look back over the row
+
+// Whether transition i has the target of an earlier one.
+fn seen_before(transitions: &[u64], first: usize, i: usize) -> bool
+    requires { ⌜ first ≤ i ⌝ ∗ ⌜ (i + 1) * 2 ≤ length (now transitions) ⌝ }
+    ensures { λ r. ⌜ r ≡ Spec.seenBefore (now (transitions .entry)) first i ⌝ }
+{
+    let target = transitions[i * TRANSITION_WORDS];
+    let mut j = first;
+    while j < i {
+        if transitions[j * TRANSITION_WORDS] == target {
+            return true;
+        }
+        j = j + 1;
+    }
+    false
+}
+
+fn check_short_row(transitions: &[u64], n: u64, first: usize, end: usize) -> u64
+    requires { ⌜ first ≤ end ⌝ ∗ ⌜ end * 2 ≤ length (now transitions) ⌝ }
+    ensures { λ r. ⌜ r ≡ Spec.rowRefusal (now (transitions .entry)) n first (end - first) ⌝ }
+{
+    let mut sum: f32 = 0.0;
+    let mut i = first;
+    while i < end {
+        let seen = seen_before(transitions, first, i);
+        let refusal = check_transition(transitions, n, i, seen);
+        if refusal != 0 {
+            return refusal;
+        }
+        let at = i * TRANSITION_WORDS;
+        sum = sum + numbers::f32_of_word(transitions[at + 1]);
+        i = i + 1;
+    }
+    check_sum(sum)
+}
+
+// ---- long rows: mark the targets that were met
+
+// With a clear mark for each target that there is.
+fn check_marked_row(transitions: &[u64], n: u64, first: usize, end: usize, marks: &mut [u64]) -> u64
+    requires { ⌜ n ≤ stateMax ⌝ ∗ ⌜ first ≤ end ⌝ ∗ ⌜ end * 2 ≤ length (now transitions) ⌝ ∗ ⌜ n + 2 ≤ length (now marks) * 64 ⌝ ∗ ⌜ ((m : ℕ) → isMarked (now marks) m ≡ false) ⌝ }
+    ensures { λ r. ⌜ r ≡ Spec.rowRefusal (now (transitions .entry)) n first (end - first) ⌝ }
+{
+    let mut sum: f32 = 0.0;
+    let mut i = first;
+    while i < end {
+        let at = i * TRANSITION_WORDS;
+        let m = marks::mark_of(n, transitions[at]);
+        let seen = marks::is_marked(marks, m);
+        let refusal = check_transition(transitions, n, i, seen);
+        if refusal != 0 {
+            return refusal;
+        }
+        marks::mark(marks, m);
+        sum = sum + numbers::f32_of_word(transitions[at + 1]);
+        i = i + 1;
+    }
+    check_sum(sum)
+}
+
+// A row of a machine with up to 1,022 states: fewer marks to clear.
+fn check_row_of_few(transitions: &[u64], n: u64, first: usize, end: usize) -> u64
+    requires { ⌜ n ≤ 1022 ⌝ ∗ ⌜ first ≤ end ⌝ ∗ ⌜ end * 2 ≤ length (now transitions) ⌝ }
+    ensures { λ r. ⌜ r ≡ Spec.rowRefusal (now (transitions .entry)) n first (end - first) ⌝ }
+{
+    let mut marks = [0; 16];
+    check_marked_row(transitions, n, first, end, &mut marks)
+}
+
+// A row of any machine.
+fn check_row_of_many(transitions: &[u64], n: u64, first: usize, end: usize) -> u64
+    requires { ⌜ n ≤ stateMax ⌝ ∗ ⌜ first ≤ end ⌝ ∗ ⌜ end * 2 ≤ length (now transitions) ⌝ }
+    ensures { λ r. ⌜ r ≡ Spec.rowRefusal (now (transitions .entry)) n first (end - first) ⌝ }
+{
+    let mut marks = [0; 1563];
+    check_marked_row(transitions, n, first, end, &mut marks)
+}
+
+// ---- a row
+
+// The rows from `first` to `end`. To look back over a short row is cheaper than to clear marks.
+pub fn check_row(transitions: &[u64], n: u64, first: usize, end: usize) -> u64
+    requires { ⌜ n ≤ stateMax ⌝ ∗ ⌜ first ≤ end ⌝ ∗ ⌜ end * 2 ≤ length (now transitions) ⌝ }
+    ensures { λ r. ⌜ r ≡ Spec.rowRefusal (now (transitions .entry)) n first (end - first) ⌝ }
+{
+    if end - first <= 32 {
+        return check_short_row(transitions, n, first, end);
+    }
+    if n <= 1022 {
+        return check_row_of_few(transitions, n, first, end);
+    }
+    check_row_of_many(transitions, n, first, end)
+}

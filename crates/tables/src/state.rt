@@ -1,0 +1,237 @@
+// state.rs, `State::validate`: refusals 8 to 15 of a state, whose 58 words are `row`.
+use machine::constants::ACTION;
+use machine::constants::BLOCK_OUTGOING;
+use machine::constants::CANCEL;
+use machine::constants::COUNTER_A;
+use machine::constants::COUNTER_B;
+use machine::constants::DURATION;
+use machine::constants::EVENTS;
+use machine::constants::FLAGS;
+use machine::constants::LIMIT;
+use machine::constants::SEND_PADDING;
+use machine::constants::TIMEOUT;
+use machine::constants::TIMER;
+use machine::constants::TRANSITION_WORDS;
+use machine::constants::UPDATE_TIMER;
+ghost use mathlib.Core.Path.{_≡_};
+ghost use Prim.Native.Nat.{_+_, _≤_, _<_};
+ghost use lib.ListN.{length, getD};
+ghost use Rattle.machine.specs.Constants.{stateWords, stateMax, eventNum};
+ghost use Rattle.machine.specs.State.{firstOf, countOf};
+ghost use Rattle.tables.specs.State as Spec;
+
+// ---- refusals 8 to 13: rows of transitions
+
+// One event. Where its count is 0 it has no row, and its first row is not read.
+fn check_event(transitions: &[u64], n: u64, row: &[u64], event: usize) -> u64
+    requires { ⌜ n ≤ stateMax ⌝ ∗ ⌜ length (now row) ≡ stateWords ⌝ ∗ ⌜ event < eventNum ⌝ }
+    ensures { λ r. ⌜ r ≡ Spec.pairRefusal (now (transitions .entry)) n (firstOf (now (row .entry)) event) (countOf (now (row .entry)) event) ⌝ }
+{
+    let at = EVENTS + event * 2;
+    let count = row[at + 1] as usize;
+    if count == 0 {
+        return 0;
+    }
+    let first = row[at] as usize;
+    let rows = transitions.len() / TRANSITION_WORDS;
+    if rows < count {
+        return 8;
+    }
+    if rows - count < first {
+        return 8;
+    }
+    super::row::check_row(transitions, n, first, first + count)
+}
+
+fn check_events(transitions: &[u64], n: u64, row: &[u64]) -> u64
+    requires { ⌜ n ≤ stateMax ⌝ ∗ ⌜ length (now row) ≡ stateWords ⌝ }
+    ensures { λ r. ⌜ r ≡ Spec.eventsRefusal (now (transitions .entry)) n (now (row .entry)) ⌝ }
+{
+    let mut event = 0;
+    while event < 13 {
+        let refusal = check_event(transitions, n, row, event);
+        if refusal != 0 {
+            return refusal;
+        }
+        event = event + 1;
+    }
+    0
+}
+
+// ---- refusal 14: codes
+
+fn needed_unknown(kind: u64) -> bool
+    ensures { λ r. ⌜ r ≡ Spec.neededUnknown kind ⌝ }
+{
+    if kind == 0 {
+        return true;
+    }
+    kind > 2
+}
+
+// The flags and the limit of an action other than Cancel.
+fn common_unknown(row: &[u64]) -> bool
+    requires { ⌜ length (now row) ≡ stateWords ⌝ }
+    ensures { λ r. ⌜ r ≡ Spec.commonUnknown (now (row .entry)) ⌝ }
+{
+    if row[FLAGS] > 3 {
+        return true;
+    }
+    row[LIMIT] > 2
+}
+
+fn action_unknown(row: &[u64]) -> bool
+    requires { ⌜ length (now row) ≡ stateWords ⌝ }
+    ensures { λ r. ⌜ r ≡ Spec.actionUnknown (now (row .entry)) ⌝ }
+{
+    let action = row[ACTION];
+    if action == 0 {
+        return false;
+    }
+    if action == CANCEL {
+        return row[TIMER] > 2;
+    }
+    if action == SEND_PADDING {
+        if common_unknown(row) {
+            return true;
+        }
+        return needed_unknown(row[TIMEOUT]);
+    }
+    if action == BLOCK_OUTGOING {
+        if common_unknown(row) {
+            return true;
+        }
+        if needed_unknown(row[TIMEOUT]) {
+            return true;
+        }
+        return needed_unknown(row[DURATION]);
+    }
+    if action == UPDATE_TIMER {
+        if common_unknown(row) {
+            return true;
+        }
+        return needed_unknown(row[DURATION]);
+    }
+    true
+}
+
+// The counter that begins at word k. Its distribution's kind counts even under copy.
+fn counter_unknown(row: &[u64], k: usize) -> bool
+    requires { ⌜ length (now row) ≡ stateWords ⌝ ∗ ⌜ k + 7 ≤ stateWords ⌝ }
+    ensures { λ r. ⌜ r ≡ Spec.counterUnknown (now (row .entry)) k ⌝ }
+{
+    let operation = row[k];
+    if operation == 0 {
+        return false;
+    }
+    if operation > 3 {
+        return true;
+    }
+    if row[k + 1] > 1 {
+        return true;
+    }
+    row[k + 2] > 2
+}
+
+fn codes_unknown(row: &[u64]) -> bool
+    requires { ⌜ length (now row) ≡ stateWords ⌝ }
+    ensures { λ r. ⌜ r ≡ Spec.codesUnknown (now (row .entry)) ⌝ }
+{
+    if action_unknown(row) {
+        return true;
+    }
+    if counter_unknown(row, COUNTER_A) {
+        return true;
+    }
+    counter_unknown(row, COUNTER_B)
+}
+
+// ---- refusal 15: distributions
+
+// Dist::validate of the five words at k; only a Uniform's bounds are read.
+fn invalid(row: &[u64], k: usize) -> bool
+    requires { ⌜ length (now row) ≡ stateWords ⌝ ∗ ⌜ k + 5 ≤ stateWords ⌝ }
+    ensures { λ r. ⌜ r ≡ Spec.invalid (now (row .entry)) k ⌝ }
+{
+    if row[k] != 1 {
+        return false;
+    }
+    let low = numbers::f64_of_word(row[k + 1]);
+    let high = numbers::f64_of_word(row[k + 2]);
+    if machine::dist::valid_uniform(low, high) {
+        return false;
+    }
+    true
+}
+
+fn action_invalid(row: &[u64]) -> bool
+    requires { ⌜ length (now row) ≡ stateWords ⌝ }
+    ensures { λ r. ⌜ r ≡ Spec.actionInvalid (now (row .entry)) ⌝ }
+{
+    let action = row[ACTION];
+    if action == SEND_PADDING {
+        if invalid(row, TIMEOUT) {
+            return true;
+        }
+        return invalid(row, LIMIT);
+    }
+    if action == BLOCK_OUTGOING {
+        if invalid(row, TIMEOUT) {
+            return true;
+        }
+        if invalid(row, DURATION) {
+            return true;
+        }
+        return invalid(row, LIMIT);
+    }
+    if action == UPDATE_TIMER {
+        if invalid(row, DURATION) {
+            return true;
+        }
+        return invalid(row, LIMIT);
+    }
+    false
+}
+
+fn counter_invalid(row: &[u64], k: usize) -> bool
+    requires { ⌜ length (now row) ≡ stateWords ⌝ ∗ ⌜ k + 7 ≤ stateWords ⌝ }
+    ensures { λ r. ⌜ r ≡ Spec.counterInvalid (now (row .entry)) k ⌝ }
+{
+    if row[k] == 0 {
+        return false;
+    }
+    invalid(row, k + 2)
+}
+
+fn dists_invalid(row: &[u64]) -> bool
+    requires { ⌜ length (now row) ≡ stateWords ⌝ }
+    ensures { λ r. ⌜ r ≡ Spec.distsInvalid (now (row .entry)) ⌝ }
+{
+    if action_invalid(row) {
+        return true;
+    }
+    if counter_invalid(row, COUNTER_A) {
+        return true;
+    }
+    counter_invalid(row, COUNTER_B)
+}
+
+// ---- a state
+
+// Event by event; then the codes of the action and both counters; then their distributions.
+pub fn check_state(transitions: &[u64], n: u64, row: &[u64]) -> u64
+    requires { ⌜ n ≤ stateMax ⌝ ∗ ⌜ length (now row) ≡ stateWords ⌝ }
+    ensures { λ r. ⌜ r ≡ Spec.stateRefusal (now (transitions .entry)) n (now (row .entry)) ⌝ }
+{
+    let refusal = check_events(transitions, n, row);
+    if refusal != 0 {
+        return refusal;
+    }
+    if codes_unknown(row) {
+        return 14;
+    }
+    if dists_invalid(row) {
+        return 15;
+    }
+    0
+}
