@@ -10,7 +10,7 @@ use lib.Seq.{drop-cons, set-at, take-suc, length-take-le}
 use Rattle.text.specs.Words.{wordAt, wordsTo}
 
 -- the words are as many as they say
-length-words : (b : List ℕ) (k : ℕ) → length (wordsTo b k) ≡ k
+pub length-words : (b : List ℕ) (k : ℕ) → length (wordsTo b k) ≡ k
 unfolding wordsTo
 length-words b zero = refl
 length-words b (suc k) = length-append (wordsTo b k) (wordAt b (8 * k) ∷ []) ∙ omega (arith, length-words b k)

@@ -72,7 +72,8 @@ pub fn row_line(line: &mut [u8], row: &[u64])
 pub fn call_text(out: &mut [u8], call: u64, refusal: u64, actions: usize, rows: &[u64]) -> usize
     requires { ⌜ (15 + 41 * actions ≤ length (now out)) × (6 * actions ≤ length (now rows)) ⌝ }
     ensures { λ r. ⌜ (r ≡ 15 + 41 * actions)
-        × (now (out .exit) ≡ callText call refusal actions (now (rows .entry)) ++ drop r (now (out .entry))) ⌝ }
+        × (now (out .exit)
+        ≡ callText call refusal actions (now (rows .entry)) ++ drop r (now (out .entry))) ⌝ }
 {
     call_line(out, call, refusal, actions as u64);
     let mut at: usize = 15;
