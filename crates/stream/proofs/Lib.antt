@@ -1,0 +1,3 @@
+pub mod Clip
+pub mod Chances
+pub mod Input

@@ -1,0 +1,3 @@
+pub mod Stream
+pub mod Within
+pub mod Inside

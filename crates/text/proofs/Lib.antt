@@ -1,0 +1,4 @@
+pub mod Cells
+pub mod Lines
+pub mod Bits
+pub mod Stores

@@ -1,0 +1,4 @@
+pub mod Columns
+pub mod Words
+pub mod Part
+pub mod Fits

@@ -1,0 +1,170 @@
+// The text of the printed run on lent bytes, and words and floats out of its input.
+ghost use mathlib.Core.Path.{_≡_};
+ghost use mathlib.Core.List.{_++_};
+ghost use Prim.Native.Nat.{_+_, _*_, _≤_, _<_};
+ghost use lib.ListN.{length, drop};
+ghost use Rattle.text.specs.Columns.{column, callLine, cellIn, rowLine, callText, mark as markOf};
+ghost use Rattle.text.specs.Words.{wordAt, wordsTo, chanceOf, valueOf, chances, values};
+
+// The byte in a column left of the last: a digit, or a space where no digit is left.
+fn mark(rest: u64) -> u8
+    ensures { λ r. ⌜ r ≡ markOf rest ⌝ }
+{
+    if rest == 0 {
+        b' '
+    } else {
+        48 + (rest % 10) as u8
+    }
+}
+
+// Puts n at the right end of the first width bytes of out, with spaces in front. A number of more
+// than width digits gets its last ones.
+pub fn put_number(out: &mut [u8], width: usize, n: u64)
+    requires { ⌜ (0 < width) × (width ≤ length (now out)) ⌝ }
+    ensures { λ _. ⌜ now (out .exit) ≡ column width n (now (out .entry)) ⌝ }
+{
+    let mut i = width - 1;
+    out[i] = 48 + (n % 10) as u8;
+    let mut rest = n / 10;
+    while 0 < i {
+        i -= 1;
+        out[i] = mark(rest);
+        rest /= 10;
+    }
+}
+
+// The same in the columns from `at` on.
+fn put_cell(line: &mut [u8], at: usize, width: usize, n: u64)
+    requires { ⌜ (0 < width) × (at + width ≤ length (now line)) ⌝ }
+    ensures { λ _. ⌜ now (line .exit) ≡ cellIn at width n (now (line .entry)) ⌝ }
+{
+    put_number(&mut line[at..], width, n);
+}
+
+// A call's line: call, refusal and actions in 6, 4 and 4 columns, and a line feed.
+pub fn call_line(line: &mut [u8], call: u64, refusal: u64, actions: u64)
+    requires { ⌜ 15 ≤ length (now line) ⌝ }
+    ensures { λ _. ⌜ now (line .exit)
+        ≡ callLine call refusal actions ++ drop 15 (now (line .entry)) ⌝ }
+{
+    put_cell(line, 0, 6, call);
+    put_cell(line, 6, 4, refusal);
+    put_cell(line, 10, 4, actions);
+    line[14] = b'\n';
+}
+
+// A row's line: its six words in 4, 4, 4, 4, 12 and 12 columns, and a line feed.
+pub fn row_line(line: &mut [u8], row: &[u64])
+    requires { ⌜ (41 ≤ length (now line)) × (6 ≤ length (now row)) ⌝ }
+    ensures { λ _. ⌜ now (line .exit)
+        ≡ rowLine (now (row .entry)) ++ drop 41 (now (line .entry)) ⌝ }
+{
+    put_cell(line, 0, 4, row[0]);
+    put_cell(line, 4, 4, row[1]);
+    put_cell(line, 8, 4, row[2]);
+    put_cell(line, 12, 4, row[3]);
+    put_cell(line, 16, 12, row[4]);
+    put_cell(line, 28, 12, row[5]);
+    line[40] = b'\n';
+}
+
+// What a call prints: its line, and the lines of its rows. Answers how many bytes that is.
+pub fn call_text(out: &mut [u8], call: u64, refusal: u64, actions: usize, rows: &[u64]) -> usize
+    requires { ⌜ (15 + 41 * actions ≤ length (now out)) × (6 * actions ≤ length (now rows)) ⌝ }
+    ensures { λ r. ⌜ (r ≡ 15 + 41 * actions)
+        × (now (out .exit)
+        ≡ callText call refusal actions (now (rows .entry)) ++ drop r (now (out .entry))) ⌝ }
+{
+    call_line(out, call, refusal, actions as u64);
+    let mut at: usize = 15;
+    let mut i: usize = 0;
+    while i < actions {
+        let row = 6 * i;
+        row_line(&mut out[at..], &rows[row..]);
+        at += 41;
+        i += 1;
+    }
+    at
+}
+
+fn wide(b: u8) -> u64
+    ensures { λ r. ⌜ (r ≡ b) × (r < 256) ⌝ }
+{
+    b as u64
+}
+
+// The word whose eight bytes start at `at`, the low byte first.
+fn word_at(b: &[u8], at: usize) -> u64
+    requires { ⌜ at + 8 ≤ length (now b) ⌝ }
+    ensures { λ r. ⌜ r ≡ wordAt (now (b .entry)) at ⌝ }
+{
+    let high = wide(b[at + 7]);
+    let high = high * 256 + wide(b[at + 6]);
+    let high = high * 256 + wide(b[at + 5]);
+    let high = high * 256 + wide(b[at + 4]);
+    let high = high * 256 + wide(b[at + 3]);
+    let high = high * 256 + wide(b[at + 2]);
+    let high = high * 256 + wide(b[at + 1]);
+    high * 256 + wide(b[at])
+}
+
+// Puts the first k words of b at the start of out.
+pub fn put_words(b: &[u8], k: usize, out: &mut [u64])
+    requires { ⌜ (8 * k ≤ length (now b)) × (k ≤ length (now out)) ⌝ }
+    ensures { λ _. ⌜ now (out .exit) ≡ wordsTo (now (b .entry)) k ++ drop k (now (out .entry)) ⌝ }
+{
+    let mut i = 0;
+    while i < k {
+        out[i] = word_at(b, 8 * i);
+        i += 1;
+    }
+}
+
+// The f32 whose bits are the low 32 of a word, a NaN's pattern among them.
+fn chance_of(w: u64) -> f32
+    ensures { λ r. ⌜ r ≡ chanceOf w ⌝ }
+{
+    let n = (w % 4294967296) as u32;
+    if 2139095040 < n % 2147483648 {
+        0.0 / 0.0
+    } else {
+        f32::from_bits(n)
+    }
+}
+
+// The f64 whose bits are a word, a NaN's pattern among them.
+fn value_of(w: u64) -> f64
+    ensures { λ r. ⌜ r ≡ valueOf w ⌝ }
+{
+    if 9218868437227405312 < w % 9223372036854775808 {
+        0.0 / 0.0
+    } else {
+        f64::from_bits(w)
+    }
+}
+
+// Puts the chance draws of all of words at the start of out.
+pub fn put_chances(words: &[u64], out: &mut [f32])
+    requires { ⌜ length (now words) ≤ length (now out) ⌝ }
+    ensures { λ _. ⌜ now (out .exit)
+        ≡ chances (now (words .entry)) ++ drop (length (now (words .entry))) (now (out .entry)) ⌝ }
+{
+    let mut i = 0;
+    while i < words.len() {
+        out[i] = chance_of(words[i]);
+        i += 1;
+    }
+}
+
+// Puts the value draws of all of words at the start of out.
+pub fn put_values(words: &[u64], out: &mut [f64])
+    requires { ⌜ length (now words) ≤ length (now out) ⌝ }
+    ensures { λ _. ⌜ now (out .exit)
+        ≡ values (now (words .entry)) ++ drop (length (now (words .entry))) (now (out .entry)) ⌝ }
+{
+    let mut i = 0;
+    while i < words.len() {
+        out[i] = value_of(words[i]);
+        i += 1;
+    }
+}
