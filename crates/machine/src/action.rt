@@ -81,7 +81,7 @@ pub fn sample_duration(row: &[u64], values: &[f64], at: usize) -> WholeDrawn
 pub fn may_limit(row: &[u64]) -> bool
     ensures { λ r. ⌜ r ≡ mayLimit (now (row .entry)) ⌝ }
 {
-    word(row, ACTION) == SEND_PADDING || has_duration(row)
+    has_timeout(row) || word(row, ACTION) == UPDATE_TIMER
 }
 
 // Action::has_limit

@@ -2,26 +2,20 @@
 -- Assumes nothing.
 use borrow.Author.Needs.{needs}
 use mathlib.Core.Path.{sym, _∙_}
-use borrow.Author.Tests.{eq-eqb, ne-eqb}
 use Rattle.machine.proofs.action.may_limit.Statement.{statement}
 use Rattle.machine.proofs.action.may_limit.Tie as tie
+
+has-timeout-requires : tie.Need-has-timeout-requires
+has-timeout-requires c κs = search needs
 
 word-requires : tie.Need-word-requires
 word-requires c κs = search needs
 
-has-duration-requires : tie.Need-has-duration-requires
-has-duration-requires c κs = search needs
-
 returns : tie.Need-returns
-returns c =
-    let w = c .before .word .ensures in
-    rw (eq-eqb _ _ (sym w ∙ c .if1 .taken)) (eq-eqb _ _ (c .if1 .taken))
+returns c = rw (sym (c .before .has-timeout .ensures) ∙ c .if1 .taken) (c .if1 .taken)
 
 returns-2 : tie.Need-returns-2
-returns-2 c =
-    let w = c .before .before .word .ensures in
-    let other = c .before .if1 .left in
-    rw (ne-eqb _ _ (λ e. other (w ∙ e))) (c .has-duration .ensures)
+returns-2 c = rw (sym (c .before .before .has-timeout .ensures) ∙ c .before .if1 .left, c .word .ensures)
 
 pub may-limit-spec : {M : Type 1} → statement M
-may-limit-spec = tie.close (tie.spec word-requires has-duration-requires returns returns-2)
+may-limit-spec = tie.close (tie.spec has-timeout-requires word-requires returns returns-2)
