@@ -4,3 +4,4 @@ pub mod State
 pub mod Machine
 pub mod Framework
 pub mod Marks
+pub mod Valid
