@@ -3,3 +3,4 @@ pub mod Limits
 pub mod Transition
 pub mod Events
 pub mod Framework
+pub mod Budget
