@@ -4,3 +4,5 @@ pub mod Transition
 pub mod Events
 pub mod Framework
 pub mod Budget
+pub mod Example
+pub mod Cases
