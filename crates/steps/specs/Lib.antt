@@ -6,3 +6,4 @@ pub mod Framework
 pub mod Budget
 pub mod Example
 pub mod Cases
+pub mod Worked
