@@ -2,6 +2,11 @@
 -- `Theorem`. What stands in quotes is document 01's paragraph on what demand 3 counts, whole and in its order.
 --
 -- "Demand 3 counts the events and returned rows of its list's accepted batches, never the framework's own numbers."
+pub mod Sums
+pub mod Invariant
+pub mod Check
+pub mod Draws
+pub mod Machine
 use Prim.Native.Nat.{ℕ, zero, suc, _+_, _-_, _*_, _^_, _≤_, _<_}
 use mathlib.Core.List.{List, [], _∷_}
 use mathlib.Core.Bool.{Bool, true, false, cond, _&&_, _||_}
