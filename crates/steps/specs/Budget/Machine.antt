@@ -88,29 +88,29 @@ judged c r row h t = sym (ap by (eqb→eq (actionOf row) sendPadding t)) ∙ h
         (cond (eqb code sendPadding) (belowLimitPadding c r)
         (cond (eqb code updateTimer) (limitLeft r) true)))
 
+-- ---- the counts of a machine, what its pending action may be, and what holds after a step
+abbrev pub Has : ℕ → ℕ → MachineRuntime → Type 0
+Has p n r = (r .«padding_sent» ≡ p) × (r .«normal_sent» ≡ n)
+
+abbrev pub May : Type 0 → TriggerAction → Type 0
+May W a = T (isPadding a) → W
+
+abbrev pub Kept : ℕ → ℕ → Type 0 → Stepped → Type 0
+Kept p n W (Refused k) = 0 < k
+Kept p n W (Done d) = Has p n (d .runtime) × May W (d .action)
+
 module _ (E : Env) (p n : ℕ) (W : Type 0)
     (w : (r : MachineRuntime) → r .«padding_sent» ≡ p → r .«normal_sent» ≡ n → belowLimitPadding (E .context) r ≡ true → W) where
-  -- the counts of a machine, and what its pending action may be
-  abbrev pub Has : MachineRuntime → Type 0
-  Has r = (r .«padding_sent» ≡ p) × (r .«normal_sent» ≡ n)
-
-  abbrev pub May : TriggerAction → Type 0
-  May a = T (isPadding a) → W
-
-  abbrev pub Kept : Stepped → Type 0
-  Kept (Refused k) = 0 < k
-  Kept (Done d) = Has (d .runtime) × May (d .action)
-
   abbrev KeptUpdate : Updated → Type 0
   KeptUpdate (Halted k) = 0 < k
-  KeptUpdate (Counters u) = Has (u .runtime) × May (u .action)
+  KeptUpdate (Counters u) = Has p n (u .runtime) × May W (u .action)
 
   abbrev KeptEntry : Entered → Type 0
   KeptEntry (Barred k) = 0 < k
-  KeptEntry (In r at) = Has r
+  KeptEntry (In r at) = Has p n r
 
   -- ---- entering a state
-  enter-kept : (row : List ℕ) (r : MachineRuntime) (state at : ℕ) → Has r → KeptEntry (enter row (E .values) r state at)
+  enter-kept : (row : List ℕ) (r : MachineRuntime) (state at : ℕ) → Has p n r → KeptEntry (enter row (E .values) r state at)
   unfolding enter
   enter-kept row r state at h =
       either KeptEntry (eqb (r .«current_state») state) _ _ h (with (sampleLimit row (E .values) at) (limit-ok row (E .values) at))
@@ -121,16 +121,16 @@ module _ (E : Env) (p n : ℕ) (W : Type 0)
 
   -- ---- after the counters: `below` was judged before them, at the same counts
   finish-kept : (row : List ℕ) (before : ℕ) (below : Bool) → (below ≡ true → T (eqb (actionOf row) sendPadding) → W)
-      → (u : Update) → Has (u .runtime) → May (u .action) → Kept (finish row (E .values) before below u)
+      → (u : Update) → Has p n (u .runtime) → May W (u .action) → Kept p n W (finish row (E .values) before below u)
   unfolding finish
   finish-kept row before below j u h m = go (u .«allow_schedule») below j
     where
-      set : (T (eqb (actionOf row) sendPadding) → W) → (x : Scheduled) → ScheduledOk row x → Kept (scheduledStep u (hasChanged before u) x)
+      set : (T (eqb (actionOf row) sendPadding) → W) → (x : Scheduled) → ScheduledOk row x → Kept p n W (scheduledStep u (hasChanged before u) x)
       set j (Unset k) o = o
       set j (Set a at) o = (h, λ t. j (subst (λ (k : ℕ). T (eqb k sendPadding)) o t))
 
       go : (a b : Bool) → (b ≡ true → T (eqb (actionOf row) sendPadding) → W)
-          → Kept (cond (a && b)
+          → Kept p n W (cond (a && b)
           (scheduledStep u (hasChanged before u) (scheduleAction row (E .values) (u .shared .«value_at»)))
           (Done (record { runtime = u .runtime; shared = u .shared; action = u .action; changed = hasChanged before u })))
       go true true j = set (j refl) (scheduleAction row (E .values) (u .shared .«value_at»)) (schedule-ok row (E .values) (u .shared .«value_at»))
@@ -139,16 +139,16 @@ module _ (E : Env) (p n : ℕ) (W : Type 0)
 
   -- ---- transition and update_counter, given that a CounterZero transition keeps the counts
   abbrev Again : (MachineRuntime → Shared → TriggerAction → Stepped) → Type 0
-  Again z = (r : MachineRuntime) (s : Shared) (a : TriggerAction) → Has r → May a → Kept (z r s a)
+  Again z = (r : MachineRuntime) (s : Shared) (a : TriggerAction) → Has p n r → May W a → Kept p n W (z r s a)
 
   module _ (z : MachineRuntime → Shared → TriggerAction → Stepped) (again : Again z) where
-    update-kept : (row : List ℕ) (r : MachineRuntime) (s : Shared) (a : TriggerAction) → Has r → May a → KeptUpdate (updateCounter z E row r s a)
+    update-kept : (row : List ℕ) (r : MachineRuntime) (s : Shared) (a : TriggerAction) → Has p n r → May W a → KeptUpdate (updateCounter z E row r s a)
     unfolding updateCounter
     update-kept row r s a h m =
         on-a (updateOne row counterA (E .values) (s .«value_at») (r .«counter_a») (r .«counter_b») (s .«counter_a_zeroed»))
         (update-ok row counterA (E .values) (s .«value_at») (r .«counter_a») (r .«counter_b») (s .«counter_a_zeroed»))
       where
-        after : (x : Stepped) → Kept x → KeptUpdate (afterZero x)
+        after : (x : Stepped) → Kept p n W x → KeptUpdate (afterZero x)
         after (Refused k) o = o
         after (Done d) o = o
 
@@ -165,32 +165,32 @@ module _ (E : Env) (p n : ℕ) (W : Type 0)
             on-b x (updateOne row counterB (E .values) (x .at) (r .«counter_b») (r .«counter_a») (s .«counter_b_zeroed»))
             (update-ok row counterB (E .values) (x .at) (r .«counter_b») (r .«counter_a») (s .«counter_b_zeroed»))
 
-    entering-kept : (row : List ℕ) (before : ℕ) (s : Shared) (a : TriggerAction) → May a → (x : Entered) → KeptEntry x
-        → Kept (entering z E row before s a x)
+    entering-kept : (row : List ℕ) (before : ℕ) (s : Shared) (a : TriggerAction) → May W a → (x : Entered) → KeptEntry x
+        → Kept p n W (entering z E row before s a x)
     entering-kept row before s a m (Barred k) h = h
     entering-kept row before s a m (In r at) h = done (updateCounter z E row r (withValueAt s at) a) (update-kept row r (withValueAt s at) a h m)
       where
-        done : (x : Updated) → KeptUpdate x → Kept (finished row (E .values) before (belowActionLimits (E .context) r row) x)
+        done : (x : Updated) → KeptUpdate x → Kept p n W (finished row (E .values) before (belowActionLimits (E .context) r row) x)
         done (Halted k) o = o
         done (Counters u) o =
             finish-kept row before (belowActionLimits (E .context) r row) (λ e t. w r (h .0) (h .1) (judged (E .context) r row e t)) u (o .0) (o .1)
 
-    going-kept : (r : MachineRuntime) (s : Shared) (a : TriggerAction) → Has r → May a → (x : Next) → Kept (going z E r s a x)
+    going-kept : (r : MachineRuntime) (s : Shared) (a : TriggerAction) → Has p n r → May W a → (x : Next) → Kept p n W (going z E r s a x)
     going-kept r s a h m Nothing = (h, m)
     going-kept r s a h m (State next) =
-        either Kept (eqb next stateEnd) _ _ (h, m)
-        (either Kept (eqb next stateSignal) _ _ (h, m)
+        either (Kept p n W) (eqb next stateEnd) _ _ (h, m)
+        (either (Kept p n W) (eqb next stateSignal) _ _ (h, m)
         (entering-kept (stateRow (E .rows) next) (r .«current_state») s a m
         (enter (stateRow (E .rows) next) (E .values) r next (s .«value_at»)) (enter-kept (stateRow (E .rows) next) r next (s .«value_at») h)))
 
     by-kept : (event : ℕ) → Again (transitionBy z E event)
     unfolding transitionBy
     by-kept event r s a h m =
-        either Kept (eqb (r .«current_state») stateEnd) _ _ (h, m)
-        (either Kept (eqb (countOf (stateRow (E .rows) (r .«current_state»)) event) 0) _ _ (h, m)
+        either (Kept p n W) (eqb (r .«current_state») stateEnd) _ _ (h, m)
+        (either (Kept p n W) (eqb (countOf (stateRow (E .rows) (r .«current_state»)) event) 0) _ _ (h, m)
         (chosen (chanceDraw (E .chances) (s .«chance_at»)) (chance-ok (E .chances) (s .«chance_at»))))
       where
-        chosen : (x : ChanceDrawn) → ChanceOk x → Kept (drawn z E (stateRow (E .rows) (r .«current_state»)) event r s a x)
+        chosen : (x : ChanceDrawn) → ChanceOk x → Kept p n W (drawn z E (stateRow (E .rows) (r .«current_state»)) event r s a x)
         chosen (NoChance k) o = o
         chosen (GotChance draw at) o =
             going-kept r (withChanceAt s at) a h m
@@ -201,23 +201,23 @@ module _ (E : Env) (p n : ℕ) (W : Type 0)
   zero-kept zero r s a h m = (h, m)
   zero-kept (suc k) r s a h m = by-kept (zeroTransition k E) (zero-kept k) counterZero r s a h m
 
-  pub transition-kept : (event : ℕ) (r : MachineRuntime) (s : Shared) (a : TriggerAction) → Has r → May a → Kept (transition E event r s a)
+  pub transition-kept : (event : ℕ) (r : MachineRuntime) (s : Shared) (a : TriggerAction) → Has p n r → May W a → Kept p n W (transition E event r s a)
   transition-kept event r s a h m = by-kept (zeroTransition 2 E) (zero-kept 2) event r s a h m
 
   -- ---- the fall of the state limit, and a whole turn
-  decrement-kept : (r : MachineRuntime) (s : Shared) (a : TriggerAction) → Has r → May a → Kept (decrementLimit E r s a)
+  decrement-kept : (r : MachineRuntime) (s : Shared) (a : TriggerAction) → Has p n r → May W a → Kept p n W (decrementLimit E r s a)
   unfolding decrementLimit
   decrement-kept r s a h m =
-      either Kept (eqb (r .«state_limit» - 1) 0 && hasLimit (stateRow (E .rows) (r .«current_state»))) _ _
+      either (Kept p n W) (eqb (r .«state_limit» - 1) 0 && hasLimit (stateRow (E .rows) (r .«current_state»))) _ _
       (transition-kept limitReached (withState r (r .«current_state») (r .«state_limit» - 1)) s noAction h (λ t. absurd t)) (h, m)
 
   pub turn-kept : (kind : ℕ) (falls : Bool) (blocked : ℕ) (r : MachineRuntime) (s : Shared) (a : TriggerAction)
-      → Has (countedBy kind blocked r) → May a → Kept (turn E kind falls blocked r s a)
+      → Has p n (countedBy kind blocked r) → May W a → Kept p n W (turn E kind falls blocked r s a)
   unfolding turn
   turn-kept kind falls blocked r s a h m = after (transition E (eventOf kind) (countedBy kind blocked r) s a) (transition-kept (eventOf kind) (countedBy kind blocked r) s a h m)
     where
-      after : (x : Stepped) → Kept x → Kept (afterTransition E falls x)
+      after : (x : Stepped) → Kept p n W x → Kept p n W (afterTransition E falls x)
       after (Refused k) o = o
       after (Done d) o =
-          either Kept (falls && not (d .changed) && not (eqb (d .runtime .«current_state») stateEnd)) _ _
+          either (Kept p n W) (falls && not (d .changed) && not (eqb (d .runtime .«current_state») stateEnd)) _ _
           (decrement-kept (d .runtime) (d .shared) (d .action) (o .0) (o .1)) o
