@@ -8,6 +8,8 @@ pub mod Check
 pub mod Draws
 pub mod Machine
 pub mod Turns
+pub mod Rows
+pub mod Batches
 use Prim.Native.Nat.{ℕ, zero, suc, _+_, _-_, _*_, _^_, _≤_, _<_}
 use mathlib.Core.List.{List, [], _∷_}
 use mathlib.Core.Bool.{Bool, true, false, cond, _&&_, _||_}

@@ -283,7 +283,7 @@ module _ (tables : Tables) (F : Float) (f64 : T (fits binary64 F)) (few : rowsIn
       Kept' : Framework → Type 0
       Kept' g = g .runtime ≡ fw .runtime
 
-  num-is : (l : Ledger) (fw : Framework) → Frame l fw → numMachines fw ≡ M
+  pub num-is : (l : Ledger) (fw : Framework) → Frame l fw → numMachines fw ≡ M
   num-is l fw f = let e = f .machines in omega (arith, few)
 
   -- the invariant of a batch: what its SendPaddings owe, and its counts
