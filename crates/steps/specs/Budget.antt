@@ -10,6 +10,8 @@ pub mod Machine
 pub mod Turns
 pub mod Rows
 pub mod Batches
+pub mod Opening
+pub mod Theorem
 use Prim.Native.Nat.{ℕ, zero, suc, _+_, _-_, _*_, _^_, _≤_, _<_}
 use mathlib.Core.List.{List, [], _∷_}
 use mathlib.Core.Bool.{Bool, true, false, cond, _&&_, _||_}

@@ -103,21 +103,20 @@ module _ (tables : Tables) (F : Float) (f64 : T (fits binary64 F)) (few : rowsIn
     pub at : (i : ℕ) → i < rowsIn (tables .machines) → At tables F f64 few l fw i
 
   begins : (l : Ledger) (fw : Framework) (time : ℕ) → packets l ≤ 2 ^ 53 → Rest l fw → Live tables F f64 few l (begin fw time)
-  begins l fw time small r =
-      (
-        inv-acts (checks tables F f64) l nobody (sends tables F f64 few (begin fw time)) small (r .inv) (λ i t. absurd (none-pending machineMax i t)),
-        record {
-          frame = record {
-            machines = r .frame .machines;
-            frac = r .frame .frac;
-            normal = r .frame .normal;
-            padding = r .frame .padding;
-            room = r .frame .room;
-          };
-          room = length-replicate machineMax noAction;
-          at = r .at;
-        },
-      )
+  begins l fw time small r = (
+    inv-acts (checks tables F f64) l nobody (sends tables F f64 few (begin fw time)) small (r .inv) (λ i t. absurd (none-pending machineMax i t)),
+    record {
+      frame = record {
+        machines = r .frame .machines;
+        frac = r .frame .frac;
+        normal = r .frame .normal;
+        padding = r .frame .padding;
+        room = r .frame .room;
+      };
+      room = length-replicate machineMax noAction;
+      at = r .at;
+    },
+  )
 
   runs : (D : Tapes) (time : ℕ) (es : List ℕ) (l : Ledger) (fw : Framework) → Rest l fw → Spends l es → packets (counted l es) ≤ 2 ^ 53
       → Ok (Live tables F f64 few (counted l es)) (triggerEvents tables D time es fw)

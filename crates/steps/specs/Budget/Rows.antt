@@ -38,19 +38,17 @@ module _ (actions : List TriggerAction) (n : ℕ) (rows : List ℕ) (k : ℕ) (h
   later i (p, q) = (omega arith, q)
 
   no-row : Read actions (suc n) (rows ++ []) k
-  no-row =
-      (
-        length-append rows [] ∙ add-zero (length rows) ∙ h .0,
-        λ tail i t. later i (h .1 tail i (subst (λ (r : List ℕ). T (returnsPadding r k i)) (append-assoc rows [] tail) t)),
-      )
+  no-row = (
+    length-append rows [] ∙ add-zero (length rows) ∙ h .0,
+    λ tail i t. later i (h .1 tail i (subst (λ (r : List ℕ). T (returnsPadding r k i)) (append-assoc rows [] tail) t)),
+  )
 
   a-row : (kind : ℕ) (rest : List ℕ) → kind ≡ getD actions n noAction .kind → length rest ≡ 4
       → Read actions (suc n) (rows ++ (n ∷ kind ∷ rest)) (suc k)
-  a-row kind rest e four =
-      (
-        length-append rows (n ∷ kind ∷ rest) ∙ six (length rows) (length rest) (h .0) four,
-        λ tail i t. read tail i (subst (λ (r : List ℕ). T (returnsPadding r (suc k) i)) (append-assoc rows (n ∷ kind ∷ rest) tail) t),
-      )
+  a-row kind rest e four = (
+    length-append rows (n ∷ kind ∷ rest) ∙ six (length rows) (length rest) (h .0) four,
+    λ tail i t. read tail i (subst (λ (r : List ℕ). T (returnsPadding r (suc k) i)) (append-assoc rows (n ∷ kind ∷ rest) tail) t),
+  )
     where
       six : (a b : ℕ) → a ≡ k * 6 → b ≡ 4 → a + suc (suc b) ≡ suc k * 6
       six a b p q = omega arith

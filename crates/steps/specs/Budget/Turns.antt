@@ -78,11 +78,10 @@ counted-has l kind machine blocked i r owned small mine h =
         (cond b (withCounts r (saturatingAdd (r .«padding_sent») 1) (r .«normal_sent») (r .«blocking_duration»))
         (cond c (withCounts r (r .«padding_sent») (r .«normal_sent») (saturatingAdd (r .«blocking_duration») blocked)) r)))
     go true b c m k = (h .0, ap (λ (z : ℕ). saturatingAdd z 1) (h .1) ∙ normal k)
-    go false true c m k =
-        (
-          ap (λ (z : ℕ). saturatingAdd z 1) (h .0) ∙ own k ∙ sym (plus-same (l .own) i) ∙ ap (λ (z : ℕ). plus (l .own) z i) (m refl),
-          h .1,
-        )
+    go false true c m k = (
+      ap (λ (z : ℕ). saturatingAdd z 1) (h .0) ∙ own k ∙ sym (plus-same (l .own) i) ∙ ap (λ (z : ℕ). plus (l .own) z i) (m refl),
+      h .1,
+    )
     go false false true m k = h
     go false false false m k = h
 
@@ -291,11 +290,10 @@ module _ (tables : Tables) (F : Float) (f64 : T (fits binary64 F)) (few : rowsIn
   Live l x = Inv (checks tables F f64) l (sends x) × Same l x
 
   mid-live : (l l' : Ledger) (x y : Run) (k : ℕ) → packets l' ≤ 2 ^ 53 → Inv (checks tables F f64) l' (sends x) → Mid l l' (sends x) k 0 y → Live l' y
-  mid-live l l' x y k small v m =
-      (
-        inv-acts (checks tables F f64) l' (sends x) (sends y) small v (m .acts),
-        record { frame = m .frame; room = m .room; at = λ i h. m .had i h (side i) },
-      )
+  mid-live l l' x y k small v m = (
+    inv-acts (checks tables F f64) l' (sends x) (sends y) small v (m .acts),
+    record { frame = m .frame; room = m .room; at = λ i h. m .had i h (side i) },
+  )
     where
       side : (i : ℕ) → (i < k) ⊎ (k + 0 ≤ i)
       side i = elim (decLt i k) [ yes h ↦ inl h | no h ↦ inr (omega arith) ]
