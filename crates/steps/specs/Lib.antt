@@ -3,3 +3,7 @@ pub mod Limits
 pub mod Transition
 pub mod Events
 pub mod Framework
+pub mod Budget
+pub mod Example
+pub mod Cases
+pub mod Worked

@@ -1,0 +1,207 @@
+-- What an accepted opening says: of the tables (at most 16 machines, no fraction above 1), of the framework's fraction, and of the
+-- framework, which counts nothing yet. Assumes nothing.
+use Prim.Native.Nat.{ℕ, zero, suc, _+_, _*_, _/_, _%_, _≤_, _<_}
+use native.Mathlib.Nat.{lt-irrefl, add-zero}
+use native.Mathlib.Omega.{arith}
+use mathlib.Core.Bool.{Bool, true, false, cond, _&&_, _||_, true≢false, false≢true}
+use mathlib.Core.List.{List, [], _∷_}
+use mathlib.Core.Path.{_≡_, refl, sym, ap, _∙_, subst}
+use lib.IntN.{pos}
+use lib.Dec.{T, eqb, leb, leb→le, lit<}
+use lib.ListN.{length, getD, set, take, drop, replicate, length-set, length-replicate}
+use lib.Seq.{getD-take, getD-drop}
+use lib.Ieee.{Float, nan, inf, fin, binary64, ofBits, fits, lt, le}
+use lib.Ieee.Bits.{ofBits-fits}
+use lib.Ieee.Fits.{and-l, and-r}
+use lib.Ieee.Positive.{positive}
+use lib.Ieee.Scale.{finite}
+use borrow.Author.Tests.{eqb-true, eqb-false}
+use Rattle.numbers.specs.Fraction.{in1074}
+use Rattle.numbers.specs.Fraction.Units.{positive-units, above-zero, limit-positive}
+use Rattle.machine.specs.Constants.{machineMax, machineWords, stateWords, transitionWords, maxPaddingFrac, maxBlockingFrac, allowedBlockedMicrosec}
+use Rattle.machine.specs.Dist.{zeroF, f64At}
+use Rattle.machine.specs.Action.{actionOf}
+use Rattle.machine.specs.State.{rowsOf, stateRow}
+use Rattle.machine.specs.declared.dist.WholeDrawn.{WholeDrawn}
+use Rattle.machine.specs.declared.dist.WholeDrawn.the-variants.{NoWhole, GotWhole}
+use Rattle.tables.specs.First.{orElse, firstRefusal}
+use Rattle.tables.specs.Framework.{isFraction, fractionsRefusal}
+use Rattle.tables.specs.Machine.{beyondFraction, machineRefusal, wholeTables, tablesRefusal}
+use Rattle.steps.specs.Events.{Tables, Run, Outcome, stop, go, each, noRuntime, runtimeAt, machineWord, statesOf}
+use Rattle.steps.specs.Framework.{rowsIn, newRuntime, startLimit, opened, openTurn, openRun, openedBy, opening}
+use Rattle.steps.specs.Budget.{empty, fraction}
+use Rattle.steps.specs.Budget.Invariant.{inv-open}
+use Rattle.steps.specs.Budget.Check.{checks}
+use Rattle.steps.specs.Budget.Draws.{either, WholeOk, limit-ok}
+use Rattle.steps.specs.Budget.Machine.{Has}
+use Rattle.steps.specs.Budget.Turns.{Ok, each-ok, Frame}
+use Rattle.steps.specs.Budget.Batches.{Rest}
+use Rattle.steps.specs.declared.MachineRuntime.{MachineRuntime}
+
+-- ---- no refusal among several
+none-of : (a b : ℕ) → orElse a b ≡ 0 → (a ≡ 0) × (b ≡ 0)
+unfolding orElse
+none-of a b h = by (eqb a 0) (eqb-true a 0) (eqb-false a 0) h
+  where
+    by : (c : Bool) → (c ≡ true → a ≡ 0) → (c ≡ false → a ≡ 0 → ⊥) → cond c b a ≡ 0 → (a ≡ 0) × (b ≡ 0)
+    by true e n h = (e refl, h)
+    by false e n h = absurd (n refl h)
+
+none-from : (f : ℕ → ℕ) (k i : ℕ) → firstRefusal f k i ≡ 0 → (j : ℕ) → j < k → f (i + j) ≡ 0
+unfolding firstRefusal
+none-from f zero i h j l = absurd (below l)
+  where
+    below : j < 0 → ⊥
+    below l = omega arith
+none-from f (suc k) i h zero l = ap f (add-zero i) ∙ none-of (f i) (firstRefusal f k (i + 1)) h .0
+none-from f (suc k) i h (suc j) l =
+    ap f (next i j) ∙ none-from f k (i + 1) (none-of (f i) (firstRefusal f k (i + 1)) h .1) j (omega arith)
+  where
+    next : (i j : ℕ) → i + suc j ≡ i + 1 + j
+    next i j = omega arith
+
+zero-one : (n : ℕ) → suc n ≡ 0 → ⊥
+zero-one n e = omega arith
+
+-- ---- the tables of an accepted opening
+module _ (machines states ts : List ℕ) (ok : tablesRefusal machines states ts ≡ 0) where
+  refusalOf : ℕ → ℕ
+  refusalOf i = machineRefusal states ts (rowsOf machineWords machines i 1)
+
+  parts : T (wholeTables machines states ts) × (firstRefusal refusalOf (rowsIn machines) 0 ≡ 0)
+  unfolding tablesRefusal refusalOf
+  parts = by (wholeTables machines states ts) ok
+    where
+      by : (b : Bool) → cond b (firstRefusal refusalOf (rowsIn machines) 0) 3 ≡ 0 → T b × (firstRefusal refusalOf (rowsIn machines) 0 ≡ 0)
+      by true h = (tt, h)
+      by false h = absurd (zero-one 2 h)
+
+  pub at-most-16 : rowsIn machines ≤ machineMax
+  at-most-16 =
+      leb→le (rowsIn machines) machineMax
+      (and-r (eqb (length machines % machineWords) 0 && eqb (length states % stateWords) 0 && eqb (length ts % transitionWords) 0)
+      (leb (rowsIn machines) machineMax) (parts .0))
+
+  -- a machine's fraction is not above 1
+  not-above-1 : (i : ℕ) → i < rowsIn machines → lt (ofBits binary64 0x3ff0_0000_0000_0000) (ofBits binary64 (machineWord machines i maxPaddingFrac)) ≡ false
+  unfolding machineRefusal refusalOf rowsOf
+  not-above-1 i h =
+      ap (λ (w : ℕ). lt (ofBits binary64 0x3ff0_0000_0000_0000) (ofBits binary64 w)) (sym word)
+      ∙ by (lt (f64At row maxPaddingFrac) (ofBits binary64 0)) (lt (ofBits binary64 0x3ff0_0000_0000_0000) (f64At row maxPaddingFrac)) _
+      (ap refusalOf (zero-plus i) ∙ none-from refusalOf (rowsIn machines) 0 (parts .1) i h)
+    where
+      row : List ℕ
+      row = take (1 * machineWords) (drop (i * machineWords) machines)
+
+      zero-plus : (i : ℕ) → i ≡ 0 + i
+      zero-plus i = omega arith
+
+      word : getD row maxPaddingFrac 0 ≡ machineWord machines i maxPaddingFrac
+      word = getD-take (1 * machineWords) (drop (i * machineWords) machines) maxPaddingFrac 0 (lit< tt) ∙ getD-drop (i * machineWords) machines maxPaddingFrac 0
+
+      by : (a b : Bool) (n : ℕ) → cond (a || b) 4 n ≡ 0 → b ≡ false
+      by a false n h = refl
+      by true true n h = absurd (zero-one 3 h)
+      by false true n h = absurd (zero-one 3 h)
+
+  pub machine-units : (i : ℕ) → i < rowsIn machines → lt zeroF (ofBits binary64 (machineWord machines i maxPaddingFrac)) ≡ true
+      → 0 < in1074 (ofBits binary64 (machineWord machines i maxPaddingFrac))
+  unfolding ofBits
+  machine-units i h above =
+      positive-units binary64 (ofBits binary64 (machineWord machines i maxPaddingFrac)) (ofBits-fits binary64 (machineWord machines i maxPaddingFrac))
+      (limit-positive (ofBits binary64 (machineWord machines i maxPaddingFrac)) above (not-above-1 i h))
+
+-- ---- the framework's fraction
+fraction-finite : (x : Float) → lt zeroF x ≡ true → T (le x (ofBits binary64 0x3ff0_0000_0000_0000)) → T (finite x)
+unfolding lt le ofBits
+fraction-finite nan a b = absurd b
+fraction-finite (inf true) a b = absurd (false≢true a)
+fraction-finite (inf false) a b = absurd b
+fraction-finite (fin s m e) a b = tt
+
+pub framework-units : (F blocking : Float) → T (fits binary64 F) → fractionsRefusal F blocking ≡ 0 → lt zeroF F ≡ true → 0 < in1074 F
+unfolding fractionsRefusal ofBits
+framework-units F blocking k ok above =
+    positive-units binary64 F k
+    (above-zero F (fraction-finite F above (and-r (le zeroF F) (le F (ofBits binary64 0x3ff0_0000_0000_0000)) (by (isFraction F) (isFraction blocking) ok)))
+    (subst T (sym above) tt))
+  where
+    by : (a b : Bool) → cond {A = ℕ} a (cond b 0 2) 1 ≡ 0 → T a
+    by true b h = tt
+    by false b h = absurd (zero-one 0 h)
+
+-- ---- the framework of an accepted opening
+set-all : (P : MachineRuntime → Type 0) (l : List MachineRuntime) (i : ℕ) (a d : MachineRuntime) → P a
+    → ((j : ℕ) → P (getD l j d)) → (j : ℕ) → P (getD (set l i a) j d)
+set-all P [] i a d h k j = k j
+set-all P (x ∷ l) zero a d h k zero = h
+set-all P (x ∷ l) zero a d h k (suc j) = k (suc j)
+set-all P (x ∷ l) (suc i) a d h k zero = k zero
+set-all P (x ∷ l) (suc i) a d h k (suc j) = set-all P l i a d h (λ m. k (suc m)) j
+
+none-sent : (m i : ℕ) → Has 0 0 (getD (replicate m noRuntime) i noRuntime)
+none-sent zero i = (refl, refl)
+none-sent (suc m) zero = (refl, refl)
+none-sent (suc m) (suc i) = none-sent m i
+
+start-ok : (row : List ℕ) (values : List Float) (at : ℕ) → WholeOk (startLimit row values at)
+unfolding startLimit
+start-ok row values at = either WholeOk (eqb (actionOf row) 0) _ _ tt (limit-ok row values at)
+
+module _ (tables : Tables) (F blocking : Float) (time : ℕ) (values : List Float) where
+  -- the checks passed, and the run of the limits' draws went to its end
+  pub passed : opening tables F blocking time values .refusal ≡ 0
+      → (fractionsRefusal F blocking ≡ 0) × (tablesRefusal (tables .machines) (tables .states) (tables .transitions) ≡ 0)
+  unfolding opening
+  passed ok = none-of (fractionsRefusal F blocking) (tablesRefusal (tables .machines) (tables .states) (tables .transitions)) (by (eqb n 0) (eqb-true n 0) ok)
+    where
+      n : ℕ
+      n = orElse (fractionsRefusal F blocking) (tablesRefusal (tables .machines) (tables .states) (tables .transitions))
+
+      by : (b : Bool) → (b ≡ true → n ≡ 0) → cond b (openedBy (openRun tables F blocking time values)) (openedBy (stop n)) .refusal ≡ 0 → n ≡ 0
+      by true e h = e refl
+      by false e h = h
+
+  module _ (f64 : T (fits binary64 F)) (few : rowsIn (tables .machines) ≤ machineMax) where
+    Counts : Run → Type 0
+    Counts x = Frame tables F f64 few empty (x .framework) × ((i : ℕ) → Has 0 0 (runtimeAt (x .framework) i))
+
+    run-ok : Ok (λ x. (j : ℕ) × Counts x) (openRun tables F blocking time values)
+    unfolding Counts
+    run-ok =
+        each-ok (λ n i. Counts) (openTurn tables values) step (rowsIn (tables .machines)) 0 _ (
+          record { machines = refl; frac = refl; normal = refl; padding = refl; room = length-replicate machineMax noRuntime },
+          none-sent machineMax,
+        )
+      where
+        into : (i : ℕ) (x : Run) → Counts x → (w : WholeDrawn) → WholeOk w → Ok Counts (opened tables i x w)
+        into i x c (NoWhole n) h = h
+        into i x c (GotWhole w) h = (
+          record {
+            machines = c .0 .machines;
+            frac = c .0 .frac;
+            normal = c .0 .normal;
+            padding = c .0 .padding;
+            room = length-set (x .framework .runtime) i _ ∙ c .0 .room;
+          },
+          set-all (Has 0 0) (x .framework .runtime) i _ noRuntime (refl, refl) (c .1),
+        )
+
+        step : (n i : ℕ) (x : Run) → Counts x → Ok Counts (openTurn tables values i x)
+        step n i x c =
+            unfold openTurn in
+            into i x c (startLimit (stateRow (statesOf tables i) 0) values (x .shared .«value_at»))
+            (start-ok (stateRow (statesOf tables i) 0) values (x .shared .«value_at»))
+
+    pub rests : opening tables F blocking time values .refusal ≡ 0 → Rest tables F f64 few empty (opening tables F blocking time values .framework)
+    unfolding opening Counts
+    rests ok = by (eqb n 0) (eqb-false n 0) (openRun tables F blocking time values) run-ok ok
+      where
+        n : ℕ
+        n = orElse (fractionsRefusal F blocking) (tablesRefusal (tables .machines) (tables .states) (tables .transitions))
+
+        by : (b : Bool) → (b ≡ false → n ≡ 0 → ⊥) → (o : Outcome) → Ok (λ x. (j : ℕ) × Counts x) o
+            → cond b (openedBy o) (openedBy (stop n)) .refusal ≡ 0 → Rest tables F f64 few empty (cond b (openedBy o) (openedBy (stop n)) .framework)
+        by true e (stop k) w z = absurd (lt-irrefl 0 (subst (λ (j : ℕ). 0 < j) z w))
+        by true e (go x) w z = record { inv = inv-open (checks tables F f64); frame = w .1 .0; at = λ i h. w .1 .1 i }
+        by false e o w z = absurd (e refl z)

@@ -1,0 +1,88 @@
+-- Document 01's printed run comes out of the definitions: the opening is accepted, and the batch writes the row of the printed
+-- example. "One machine, one state, all four fractions 0, SendPadding with timeout Uniform 10 to 10 (start and max 0), no limit or
+-- counter, NormalSent to state 0 with probability 1, draw 0.25, one NormalSent at time 5."
+use Prim.Native.Nat.{ℕ, _+_}
+use mathlib.Core.Bool.{Bool, true, false}
+use mathlib.Core.List.{List, [], _∷_, _++_}
+use mathlib.Core.Path.{_≡_, refl}
+use lib.ListN.{replicate}
+use lib.Ieee.{Float, binary32, binary64, ofBits, toUnsigned, add, sub, lt, le, eq}
+use Rattle.numbers.specs.Finite.{isFinite}
+use Rattle.numbers.specs.Fraction.{reached}
+use Rattle.numbers.specs.Round.{roundAway}
+use Rattle.machine.specs.Constants.{action, timeout, sendPadding, stateLimitMax}
+use Rattle.machine.specs.Event.{eventOf, normalSent}
+use Rattle.machine.specs.Dist.{zeroF, distType, distAt, validUniform, validate, uniformDraw, outsideDraw, distSample, orZero, capped, adjusted, sample}
+use Rattle.machine.specs.Action.{sampleTimeout, sampleDuration, sampleLimit, hasLimit}
+use Rattle.machine.specs.State.{rowsOf, chanceDraw, walk, sampleState}
+use Rattle.tables.specs.First.{orElse, firstRefusal}
+use Rattle.tables.specs.State.{seenIn, transitionRefusal, sumFrom, rowRefusal, pairRefusal, actionUnknown, counterUnknown, actionInvalid, counterInvalid, fieldsRefusal, stateRefusal}
+use Rattle.tables.specs.Machine.{statesRefusal, machineRefusal, tablesRefusal}
+use Rattle.tables.specs.Framework.{fractionsRefusal}
+use Rattle.steps.specs.Limits.{belowFraction, belowLimitPadding, belowActionLimits}
+use Rattle.steps.specs.Transition.{enter, raise, scheduleAction, applied, updateOne, updateCounter, finish, transitionBy, zeroTransition, decrementLimit}
+use Rattle.steps.specs.Events.{Tables, Tapes, each, noRuntime, countedBy, blockedFor, accounted, turn, machineTurn, processEvent, signalMachine, signals}
+use Rattle.steps.specs.Framework.{startLimit, openTurn, opening, statesFit, fitsTables, kindsFit, eventsFit, batchRefusal, triggerEvents, actionRows, Batch, batch}
+use Rattle.steps.specs.Example.{stateWith, pairFirst, pairCount, quarter32, one32, ten64, f32}
+use Rattle.steps.specs.declared.MachineRuntime.{MachineRuntime}
+use Rattle.steps.specs.declared.Framework.{Framework}
+use Rattle.steps.specs.declared.Opened.{Opened}
+use Rattle.steps.specs.declared.Answer.{Answer}
+
+abbrev tables : Tables
+tables = record {
+  machines = 0 ∷ 0 ∷ 0 ∷ 0 ∷ 0 ∷ 1 ∷ [];
+  states = stateWith (
+      (action, sendPadding) ∷ (timeout, 1) ∷ (timeout + 1, ten64) ∷ (timeout + 2, ten64)
+      ∷ (pairFirst normalSent, 0) ∷ (pairCount normalSent, 1) ∷ []
+      );
+  transitions = 0 ∷ one32 ∷ [];
+}
+
+-- the framework after `normal` packets, at this time
+abbrev after : (time normal : ℕ) → Framework
+after time normal = record {
+  machines = 1;
+  «current_time» = time;
+  «max_padding_frac» = zeroF;
+  «normal_sent_packets» = normal;
+  «padding_sent_packets» = 0;
+  «max_blocking_frac» = zeroF;
+  «blocking_duration» = 0;
+  «blocking_started» = 0;
+  «blocking_active» = 0;
+  «signal_pending» = 0;
+  «framework_start» = 0;
+  runtime =
+      record {
+        «current_state» = 0;
+        «state_limit» = stateLimitMax;
+        «padding_sent» = 0;
+        «normal_sent» = normal;
+        «blocking_duration» = 0;
+        «machine_start» = 0;
+        «allowed_blocked_microsec» = 0;
+        «counter_a» = 0;
+        «counter_b» = 0;
+      } ∷ replicate 15 noRuntime;
+}
+
+abbrev accepted : Opened
+accepted = record { refusal = 0; «chance_used» = 0; «value_used» = 0; framework = after 0 0 }
+
+-- one action: machine 0, kind 2, no flags, no timer, timeout 10, no duration; the words after it stay
+abbrev answered : Batch
+answered = record {
+  answer = record { refusal = 0; actions = 1; «chance_used» = 1; «value_used» = 0; framework = after 5 1 };
+  out = 0 ∷ 2 ∷ 0 ∷ 0 ∷ 10 ∷ 0 ∷ 9 ∷ [];
+}
+
+pub opens : opening tables zeroF zeroF 0 [] ≡ accepted
+unfolding
+    opening fractionsRefusal
+    validUniform tablesRefusal orElse firstRefusal machineRefusal statesRefusal stateRefusal pairRefusal rowRefusal transitionRefusal seenIn sumFrom fieldsRefusal actionUnknown counterUnknown actionInvalid counterInvalid validate distAt distType isFinite rowsOf openTurn startLimit sampleLimit hasLimit each ofBits lt le add sub
+opens = refl
+
+pub runs : batch (after 0 0) tables 5 (normalSent ∷ 0 ∷ []) (record { chances = f32 quarter32 ∷ []; values = [] }) (replicate 7 9) ≡ answered
+unfolding validUniform batch batchRefusal fitsTables statesFit eventsFit kindsFit tablesRefusal orElse firstRefusal machineRefusal statesRefusal stateRefusal pairRefusal rowRefusal transitionRefusal seenIn sumFrom fieldsRefusal actionUnknown counterUnknown actionInvalid counterInvalid validate distAt distType isFinite rowsOf each ofBits lt le add sub triggerEvents processEvent accounted blockedFor machineTurn turn countedBy eventOf transitionBy chanceDraw sampleState walk enter updateCounter updateOne belowActionLimits belowLimitPadding belowFraction finish scheduleAction sampleTimeout sampleDuration sample distSample uniformDraw eq adjusted capped orZero roundAway signals actionRows
+runs = refl
