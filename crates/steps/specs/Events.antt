@@ -4,7 +4,7 @@ use Prim.Native.Nat.{ℕ, zero, suc, _+_, _-_, _*_, min}
 use mathlib.Core.List.{List}
 use mathlib.Core.Bool.{Bool, true, false, cond, not, _&&_, _||_}
 use lib.ListN.{getD, set}
-use lib.Dec.{ltb, eqb}
+use lib.Dec.{ltb, leb, eqb}
 use lib.Ieee.{Float, binary64, ofBits}
 use Rattle.numbers.specs.Saturating.{saturatingAdd}
 use Rattle.machine.specs.Constants.{machineMax, machineWords, stateWords, allowedPaddingPackets, maxPaddingFrac, maxBlockingFrac, firstState, numStates, stateEnd}
@@ -267,7 +267,9 @@ signalTurn T D pending i x = cond (eqb pending (2 + i)) (go x) (signalMachine T 
 abbrev pub lastSignal : Tables → Tapes → ℕ → Run → Outcome
 lastSignal T D pending x =
     cond (eqb (pendingOf x) 0) (go x)
-    (cond (eqb pending 1) (go (unsignalled x)) (signalMachine T D (pending - 2) (unsignalled x)))
+    (cond (leb 2 pending && ltb pending (2 + numMachines (x .framework)))
+    (signalMachine T D (pending - 2) (unsignalled x))
+    (go (unsignalled x)))
 
 unfoldable pub signals : Tables → Tapes → Run → Outcome
 signals T D x =
