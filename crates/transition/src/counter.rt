@@ -8,7 +8,6 @@ use machine::state::word;
 use steps::Counted;
 use steps::Counter;
 ghost use mathlib.Core.Path.{_≡_};
-ghost use mathlib.Core.Bool.{_||_};
 ghost use Prim.Native.Nat.{_≤_};
 ghost use Rattle.steps.specs.Transition as Spec;
 
@@ -38,19 +37,10 @@ pub fn reports_zero(old: u64, value: u64, zeroed: bool) -> bool
     false
 }
 
-pub fn either(a: bool, b: bool) -> bool
-    ensures { λ x. ⌜ x ≡ (a || b) ⌝ }
-{
-    if a {
-        return true;
-    }
-    b
-}
-
 pub fn counter_of(reports: bool, value: u64, zeroed: bool, at: usize) -> Counted
     ensures { λ x. ⌜ x ≡ Spec.counterOf reports value zeroed at ⌝ }
 {
-    let zeroed = either(zeroed, reports);
+    let zeroed = super::either(zeroed, reports);
     Counted::NewValue(Counter {
         value: value,
         zeroed: zeroed,

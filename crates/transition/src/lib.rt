@@ -33,8 +33,10 @@ use steps::TriggerAction;
 use steps::Update;
 use steps::Updated;
 ghost use mathlib.Core.Path.{_≡_};
-ghost use mathlib.Core.Bool.{true};
+ghost use mathlib.Core.Bool.{true, _&&_, _||_};
+ghost use lib.Dec.{eqb};
 ghost use Prim.Native.Nat.{ℕ, _≤_, _<_};
+ghost use Rattle.machine.specs.Action.{hasLimit};
 ghost use Rattle.steps.specs.Transition as Spec;
 ghost use Rattle.steps.specs.Transition.{env, left};
 ghost use Rattle.steps.specs.Events as Events;
@@ -43,6 +45,26 @@ ghost use Rattle.transition.specs.Transition.{goToAt};
 pub mod limits; // below_action_limits and what it asks
 pub mod action; // schedule_action
 pub mod counter; // one counter of update_counter
+
+// ---- two tests
+
+pub fn either(a: bool, b: bool) -> bool
+    ensures { λ x. ⌜ x ≡ (a || b) ⌝ }
+{
+    if a {
+        return true;
+    }
+    b
+}
+
+pub fn both(a: bool, b: bool) -> bool
+    ensures { λ x. ⌜ x ≡ (a && b) ⌝ }
+{
+    if a {
+        return b;
+    }
+    false
+}
 
 // ---- answers
 
@@ -115,16 +137,14 @@ pub fn finish(row: &[u64], values: &[f64], before: u64, below: bool, u: Update) 
     let r = u.runtime;
     let s = u.shared;
     let p = u.action;
-    if u.allow_schedule {
-        if below {
-            let scheduled = action::schedule_action(row, values, s.value_at);
-            match scheduled {
-                Scheduled::Unset(n) => return Stepped::Refused(n),
-                Scheduled::Set(set, at) => {
-                    let mut t = s;
-                    t.value_at = at;
-                    return done(r, t, set, changed);
-                }
+    if both(u.allow_schedule, below) {
+        let scheduled = action::schedule_action(row, values, s.value_at);
+        match scheduled {
+            Scheduled::Unset(n) => return Stepped::Refused(n),
+            Scheduled::Set(set, at) => {
+                let mut t = s;
+                t.value_at = at;
+                return done(r, t, set, changed);
             }
         }
     }
@@ -203,7 +223,7 @@ pub fn update_counter(
     t.counter_a_zeroed = a.zeroed;
     t.counter_b_zeroed = b.zeroed;
     t.value_at = b.at;
-    if counter::either(a.reports, b.reports) {
+    if either(a.reports, b.reports) {
         return after_zero(transition(rows, transitions, chances, values, c, COUNTER_ZERO, q, t, p));
     }
     Updated::Counters(Update {
@@ -294,6 +314,16 @@ pub fn transition(
 
 // ---- one machine's turn at an event
 
+// Whether the limit of the row's action is used up.
+pub fn at_limit(limit: u64, row: &[u64]) -> bool
+    ensures { λ x. ⌜ x ≡ (eqb limit 0 && hasLimit (now (row .entry))) ⌝ }
+{
+    if limit == 0 {
+        return has_limit(row);
+    }
+    false
+}
+
 // decrement_limit: not below 0. At 0, where the action has a limit, the pending action goes and
 // LimitReached follows.
 pub fn decrement_limit(
@@ -311,20 +341,18 @@ pub fn decrement_limit(
 {
     let mut q = r;
     q.state_limit = numbers::saturating_sub(r.state_limit, 1);
-    if q.state_limit == 0 {
-        if has_limit(state_row(rows, q.current_state)) {
-            return transition(
-                rows,
-                transitions,
-                chances,
-                values,
-                c,
-                LIMIT_REACHED,
-                q,
-                s,
-                action::no_action(),
-            );
-        }
+    if at_limit(q.state_limit, state_row(rows, q.current_state)) {
+        return transition(
+            rows,
+            transitions,
+            chances,
+            values,
+            c,
+            LIMIT_REACHED,
+            q,
+            s,
+            action::no_action(),
+        );
     }
     done(q, s, p, false)
 }
