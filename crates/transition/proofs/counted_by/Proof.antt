@@ -18,8 +18,11 @@ saturating-add-requires-2 c κs = search needs
 returns-2 : tie.Need-returns-2
 unfolding countedBy
 returns-2 c =
-    rw (ne-eqb _ _ (c .before .before .if1 .left), eq-eqb _ _ (c .before .if2 .taken),
-    c .saturating-add2 .ensures)
+    rw (
+      ne-eqb _ _ (c .before .before .if1 .left),
+      eq-eqb _ _ (c .before .if2 .taken),
+      c .saturating-add2 .ensures,
+    )
 
 saturating-add-requires-3 : tie.Need-saturating-add-requires-3
 saturating-add-requires-3 c κs = search needs
@@ -27,15 +30,21 @@ saturating-add-requires-3 c κs = search needs
 returns-3 : tie.Need-returns-3
 unfolding countedBy
 returns-3 c =
-    rw (ne-eqb _ _ (c .before .before .before .if1 .left),
-    ne-eqb _ _ (c .before .before .if2 .left), eq-eqb _ _ (c .before .if3 .taken),
-    c .saturating-add3 .ensures)
+    rw (
+      ne-eqb _ _ (c .before .before .before .if1 .left),
+      ne-eqb _ _ (c .before .before .if2 .left),
+      eq-eqb _ _ (c .before .if3 .taken),
+      c .saturating-add3 .ensures,
+    )
 
 returns-4 : tie.Need-returns-4
 unfolding countedBy
 returns-4 c =
-    rw (ne-eqb _ _ (c .before .before .if1 .left), ne-eqb _ _ (c .before .if2 .left),
-    ne-eqb _ _ (c .if3 .left))
+    rw (
+      ne-eqb _ _ (c .before .before .if1 .left),
+      ne-eqb _ _ (c .before .if2 .left),
+      ne-eqb _ _ (c .if3 .left),
+    )
 
 pub counted-by-spec : {M : Type 1} → statement M
 counted-by-spec =

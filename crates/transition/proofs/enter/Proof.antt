@@ -22,14 +22,18 @@ enum-known-limit-2 c = search needs
 returns-2 : tie.Need-returns-2
 unfolding enter
 returns-2 c =
-    rw (ne-eqb _ _ (c .before .before .before .before .if1 .left),
-    sym (c .before .before .before .sample-limit .ensures) ∙ c .before .limit .given .1)
+    rw (
+      ne-eqb _ _ (c .before .before .before .before .if1 .left),
+      sym (c .before .before .before .sample-limit .ensures) ∙ c .before .limit .given .1,
+    )
 
 returns-3 : tie.Need-returns-3
 unfolding enter
 returns-3 c =
-    rw (ne-eqb _ _ (c .before .before .before .before .if1 .left),
-    sym (c .before .before .before .sample-limit .ensures) ∙ c .before .limit2 .given .1)
+    rw (
+      ne-eqb _ _ (c .before .before .before .before .if1 .left),
+      sym (c .before .before .before .sample-limit .ensures) ∙ c .before .limit2 .given .1,
+    )
 
 pub enter-spec : {M : Type 1} → statement M
 enter-spec =

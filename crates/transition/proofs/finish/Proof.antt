@@ -23,8 +23,10 @@ returns c =
     let at-schedule-action = c .before .before .before in
     let at-if1 = at-schedule-action .before in
     let at-both = at-if1 .before in
-    rw (sym (at-both .both .ensures) ∙ at-if1 .if1 .taken,
-    sym (at-schedule-action .schedule-action .ensures) ∙ c .before .scheduled .given .1)
+    rw (
+      sym (at-both .both .ensures) ∙ at-if1 .if1 .taken,
+      sym (at-schedule-action .schedule-action .ensures) ∙ c .before .scheduled .given .1,
+    )
 
 enum-known-scheduled-2 : tie.Need-enum-known-scheduled-2
 enum-known-scheduled-2 c = search needs
@@ -39,8 +41,10 @@ returns-2 c =
     let at-if1 = at-schedule-action .before in
     let at-both = at-if1 .before in
     let at-has-changed = at-both .before .before .before .before in
-    rw (sym (at-both .both .ensures) ∙ at-if1 .if1 .taken,
-    sym (at-schedule-action .schedule-action .ensures) ∙ c .before .before .scheduled2 .given .1)
+    rw (
+      sym (at-both .both .ensures) ∙ at-if1 .if1 .taken,
+      sym (at-schedule-action .schedule-action .ensures) ∙ c .before .before .scheduled2 .given .1,
+    )
     (rw (at-has-changed .has-changed .ensures) at (c .done .ensures))
 
 done-requires-2 : tie.Need-done-requires-2

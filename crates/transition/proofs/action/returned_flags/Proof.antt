@@ -19,20 +19,24 @@ mul-result c = search needs
 
 returns-2 : tie.Need-returns-2
 returns-2 c =
-    rw (ne-eqb _ _ (λ e. c .before .before .if1 .left
-    (c .before .before .before .word .ensures ∙ e)),
-    eq-eqb _ _ (sym (c .before .before .before .word .ensures) ∙ c .before .if2 .taken),
-    c .word2 .ensures)
+    rw (
+      ne-eqb _ _ (λ e. c .before .before .if1 .left
+          (c .before .before .before .word .ensures ∙ e)),
+      eq-eqb _ _ (sym (c .before .before .before .word .ensures) ∙ c .before .if2 .taken),
+      c .word2 .ensures,
+    )
 
 word-requires-3 : tie.Need-word-requires-3
 word-requires-3 c κs = search needs
 
 returns-3 : tie.Need-returns-3
 returns-3 c =
-    rw (ne-eqb _ _ (λ e. c .before .before .if1 .left
-    (c .before .before .before .word .ensures ∙ e)),
-    ne-eqb _ _ (λ e. c .before .if2 .left (c .before .before .before .word .ensures ∙ e)),
-    c .word3 .ensures)
+    rw (
+      ne-eqb _ _ (λ e. c .before .before .if1 .left
+          (c .before .before .before .word .ensures ∙ e)),
+      ne-eqb _ _ (λ e. c .before .if2 .left (c .before .before .before .word .ensures ∙ e)),
+      c .word3 .ensures,
+    )
 
 pub returned-flags-spec : {M : Type 1} → statement M
 returned-flags-spec =

@@ -13,8 +13,10 @@ word-requires-2 c κs = search needs
 
 returns : tie.Need-returns
 returns c =
-    rw (eq-eqb _ _ (sym (c .before .before .word .ensures) ∙ c .before .if1 .taken),
-    c .word2 .ensures)
+    rw (
+      eq-eqb _ _ (sym (c .before .before .word .ensures) ∙ c .before .if1 .taken),
+      c .word2 .ensures,
+    )
 
 returns-2 : tie.Need-returns-2
 returns-2 c = rw (ne-eqb _ _ (λ e. c .if1 .left (c .before .word .ensures ∙ e)))

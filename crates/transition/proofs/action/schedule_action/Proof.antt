@@ -43,8 +43,10 @@ returns-2 c =
     let at-sample-duration = c .before .before .before in
     let at-timeout2 = at-sample-duration .before .before in
     let at-sample-timeout = at-timeout2 .before .before in
-    rw (sym (at-sample-timeout .sample-timeout .ensures) ∙ at-timeout2 .timeout2 .given .1,
-    sym (at-sample-duration .sample-duration .ensures) ∙ c .before .duration .given .1)
+    rw (
+      sym (at-sample-timeout .sample-timeout .ensures) ∙ at-timeout2 .timeout2 .given .1,
+      sym (at-sample-duration .sample-duration .ensures) ∙ c .before .duration .given .1,
+    )
 
 returns-3 : tie.Need-returns-3
 unfolding scheduleAction
@@ -53,10 +55,13 @@ returns-3 c =
     let at-sample-duration = at-duration2 .before .before in
     let at-timeout2 = at-sample-duration .before .before in
     let at-sample-timeout = at-timeout2 .before .before in
-    rw (sym (at-sample-timeout .sample-timeout .ensures) ∙ at-timeout2 .timeout2 .given .1,
-    sym (at-sample-duration .sample-duration .ensures) ∙ at-duration2 .duration2 .given .1,
-    c .before .before .word .ensures, c .before .returned-flags .ensures,
-    c .returned-timer .ensures)
+    rw (
+      sym (at-sample-timeout .sample-timeout .ensures) ∙ at-timeout2 .timeout2 .given .1,
+      sym (at-sample-duration .sample-duration .ensures) ∙ at-duration2 .duration2 .given .1,
+      c .before .before .word .ensures,
+      c .before .returned-flags .ensures,
+      c .returned-timer .ensures,
+    )
 
 pub schedule-action-spec : {M : Type 1} → statement M
 schedule-action-spec =

@@ -42,8 +42,10 @@ returns-2 c =
     let at-change-of = c .before .before .before in
     let at-if1 = at-change-of .before in
     let at-word = at-if1 .before in
-    rw (ne-eqb _ _ (λ e. at-if1 .if1 .left (at-word .word .ensures ∙ e)),
-    sym (at-change-of .change-of .ensures) ∙ c .before .change .given .1)
+    rw (
+      ne-eqb _ _ (λ e. at-if1 .if1 .left (at-word .word .ensures ∙ e)),
+      sym (at-change-of .change-of .ensures) ∙ c .before .change .given .1,
+    )
 
 returns-3 : tie.Need-returns-3
 unfolding updateOne
@@ -52,10 +54,15 @@ returns-3 c =
     let at-change-of = at-change2 .before .before in
     let at-if1 = at-change-of .before in
     let at-word = at-if1 .before in
-    rw (ne-eqb _ _ (λ e. at-if1 .if1 .left (at-word .word .ensures ∙ e)),
-    sym (at-change-of .change-of .ensures) ∙ at-change2 .change2 .given .1)
-    (rw (c .before .reports-zero .ensures, c .before .before .applied .ensures,
-    at-word .word .ensures) at (c .counter-of2 .ensures))
+    rw (
+      ne-eqb _ _ (λ e. at-if1 .if1 .left (at-word .word .ensures ∙ e)),
+      sym (at-change-of .change-of .ensures) ∙ at-change2 .change2 .given .1,
+    )
+    (rw (
+      c .before .reports-zero .ensures,
+      c .before .before .applied .ensures,
+      at-word .word .ensures,
+    ) at (c .counter-of2 .ensures))
 
 pub update-one-spec : {M : Type 1} → statement M
 update-one-spec =

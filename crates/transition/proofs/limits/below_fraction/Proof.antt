@@ -12,8 +12,10 @@ saturating-add-requires c κs = search needs
 returns : tie.Need-returns
 unfolding belowFraction
 returns c =
-    rw (c .before .before .if1 .taken,
-    eq-eqb _ _ (sym (c .before .saturating-add .ensures) ∙ c .if2 .taken))
+    rw (
+      c .before .before .if1 .taken,
+      eq-eqb _ _ (sym (c .before .saturating-add .ensures) ∙ c .if2 .taken),
+    )
 
 fraction-reached-requires : tie.Need-fraction-reached-requires
 fraction-reached-requires c κs = search needs
@@ -21,18 +23,24 @@ fraction-reached-requires c κs = search needs
 returns-2 : tie.Need-returns-2
 unfolding belowFraction
 returns-2 c =
-    rw (c .before .before .before .before .if1 .taken, ne-eqb _ _ (λ e.
-    c .before .before .if2 .left (c .before .before .before .saturating-add .ensures ∙ e)),
-    rw (c .before .before .before .saturating-add .ensures) at
-    (sym (c .before .fraction-reached .ensures) ∙ c .if3 .taken))
+    rw (
+      c .before .before .before .before .if1 .taken,
+      ne-eqb _ _ (λ e.
+          c .before .before .if2 .left (c .before .before .before .saturating-add .ensures ∙ e)),
+      rw (c .before .before .before .saturating-add .ensures) at
+          (sym (c .before .fraction-reached .ensures) ∙ c .if3 .taken),
+    )
 
 returns-3 : tie.Need-returns-3
 unfolding belowFraction
 returns-3 c =
-    rw (c .before .before .before .before .if1 .taken, ne-eqb _ _ (λ e.
-    c .before .before .if2 .left (c .before .before .before .saturating-add .ensures ∙ e)),
-    rw (c .before .before .before .saturating-add .ensures) at
-    (sym (c .before .fraction-reached .ensures) ∙ c .if3 .left))
+    rw (
+      c .before .before .before .before .if1 .taken,
+      ne-eqb _ _ (λ e.
+          c .before .before .if2 .left (c .before .before .before .saturating-add .ensures ∙ e)),
+      rw (c .before .before .before .saturating-add .ensures) at
+          (sym (c .before .fraction-reached .ensures) ∙ c .if3 .left),
+    )
 
 returns-4 : tie.Need-returns-4
 unfolding belowFraction

@@ -22,8 +22,10 @@ returns-2 c =
     let at-with-ongoing = c .before .before .before in
     let at-if1 = at-with-ongoing .before in
     let at-replaces-blocking = at-if1 .before in
-    rw (sym (at-replaces-blocking .replaces-blocking .ensures) ∙ at-if1 .if1 .left,
-    lt-ltb _ _ (rw (at-with-ongoing .with-ongoing .ensures) at (c .before .if2 .taken)))
+    rw (
+      sym (at-replaces-blocking .replaces-blocking .ensures) ∙ at-if1 .if1 .left,
+      lt-ltb _ _ (rw (at-with-ongoing .with-ongoing .ensures) at (c .before .if2 .taken)),
+    )
 
 saturating-duration-since-requires : tie.Need-saturating-duration-since-requires
 saturating-duration-since-requires c κs = search needs
@@ -38,11 +40,15 @@ returns-3 c =
     let at-with-ongoing = at-if2 .before .before in
     let at-if1 = at-with-ongoing .before in
     let at-replaces-blocking = at-if1 .before in
-    rw (sym (at-replaces-blocking .replaces-blocking .ensures) ∙ at-if1 .if1 .left,
-    le-ltb _ _ (rw (at-with-ongoing .with-ongoing .ensures) at (at-if2 .if2 .left)),
-    rw (at-with-ongoing .with-ongoing .ensures,
-    c .before .before .saturating-duration-since .ensures) at
-    (sym (c .before .blocking-reached .ensures) ∙ c .if3 .taken))
+    rw (
+      sym (at-replaces-blocking .replaces-blocking .ensures) ∙ at-if1 .if1 .left,
+      le-ltb _ _ (rw (at-with-ongoing .with-ongoing .ensures) at (at-if2 .if2 .left)),
+      rw (
+        at-with-ongoing .with-ongoing .ensures,
+        c .before .before .saturating-duration-since .ensures,
+      ) at
+          (sym (c .before .blocking-reached .ensures) ∙ c .if3 .taken),
+    )
 
 with-ongoing-requires-2 : tie.Need-with-ongoing-requires-2
 with-ongoing-requires-2 c κs = search needs
@@ -64,14 +70,20 @@ returns-4 c =
     let at-with-ongoing = at-if2 .before .before in
     let at-if1 = at-with-ongoing .before in
     let at-replaces-blocking = at-if1 .before in
-    rw (sym (at-replaces-blocking .replaces-blocking .ensures) ∙ at-if1 .if1 .left,
-    le-ltb _ _ (rw (at-with-ongoing .with-ongoing .ensures) at (at-if2 .if2 .left)),
-    rw (at-with-ongoing .with-ongoing .ensures,
-    at-saturating-duration-since .saturating-duration-since .ensures) at
-    (sym (at-blocking-reached .blocking-reached .ensures) ∙ at-if3 .if3 .left),
-    rw (at-with-ongoing2 .with-ongoing2 .ensures,
-    c .before .before .saturating-duration-since2 .ensures) at
-    (sym (c .before .blocking-reached2 .ensures) ∙ c .if4 .taken))
+    rw (
+      sym (at-replaces-blocking .replaces-blocking .ensures) ∙ at-if1 .if1 .left,
+      le-ltb _ _ (rw (at-with-ongoing .with-ongoing .ensures) at (at-if2 .if2 .left)),
+      rw (
+        at-with-ongoing .with-ongoing .ensures,
+        at-saturating-duration-since .saturating-duration-since .ensures,
+      ) at
+          (sym (at-blocking-reached .blocking-reached .ensures) ∙ at-if3 .if3 .left),
+      rw (
+        at-with-ongoing2 .with-ongoing2 .ensures,
+        c .before .before .saturating-duration-since2 .ensures,
+      ) at
+          (sym (c .before .blocking-reached2 .ensures) ∙ c .if4 .taken),
+    )
 
 returns-5 : tie.Need-returns-5
 unfolding belowLimitBlocking
@@ -85,14 +97,20 @@ returns-5 c =
     let at-with-ongoing = at-if2 .before .before in
     let at-if1 = at-with-ongoing .before in
     let at-replaces-blocking = at-if1 .before in
-    rw (sym (at-replaces-blocking .replaces-blocking .ensures) ∙ at-if1 .if1 .left,
-    le-ltb _ _ (rw (at-with-ongoing .with-ongoing .ensures) at (at-if2 .if2 .left)),
-    rw (at-with-ongoing .with-ongoing .ensures,
-    at-saturating-duration-since .saturating-duration-since .ensures) at
-    (sym (at-blocking-reached .blocking-reached .ensures) ∙ at-if3 .if3 .left),
-    rw (at-with-ongoing2 .with-ongoing2 .ensures,
-    at-saturating-duration-since2 .saturating-duration-since2 .ensures) at
-    (sym (c .before .before .blocking-reached2 .ensures) ∙ c .before .if4 .left))
+    rw (
+      sym (at-replaces-blocking .replaces-blocking .ensures) ∙ at-if1 .if1 .left,
+      le-ltb _ _ (rw (at-with-ongoing .with-ongoing .ensures) at (at-if2 .if2 .left)),
+      rw (
+        at-with-ongoing .with-ongoing .ensures,
+        at-saturating-duration-since .saturating-duration-since .ensures,
+      ) at
+          (sym (at-blocking-reached .blocking-reached .ensures) ∙ at-if3 .if3 .left),
+      rw (
+        at-with-ongoing2 .with-ongoing2 .ensures,
+        at-saturating-duration-since2 .saturating-duration-since2 .ensures,
+      ) at
+          (sym (c .before .before .blocking-reached2 .ensures) ∙ c .before .if4 .left),
+    )
 
 pub below-limit-blocking-spec : {M : Type 1} → statement M
 below-limit-blocking-spec =
