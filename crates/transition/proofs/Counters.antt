@@ -1,0 +1,101 @@
+-- A counter that reports zero uses up its report, so that fewer may follow: what makes the recursion of transition and update_counter
+-- end, and what update_counter is where one reports. Assumes nothing.
+use Prim.Native.Nat.{ℕ, zero, suc, _+_, _-_, _≤_, _<_}
+use native.Mathlib.Nat.{lt-irrefl}
+use native.Mathlib.Omega.{arith}
+use mathlib.Core.List.{List}
+use mathlib.Core.Bool.{Bool, true, false, cond, not, _&&_, _||_}
+use mathlib.Core.Path.{_≡_, refl, sym, ap, _∙_, subst}
+use lib.ListN.{getD}
+use lib.Dec.{eqb}
+use lib.Ieee.{Float}
+use Rattle.machine.specs.Constants.{counterA, counterB}
+use Rattle.machine.specs.Event.{counterZero}
+use Rattle.machine.specs.declared.dist.WholeDrawn.{WholeDrawn}
+use Rattle.machine.specs.declared.dist.WholeDrawn.the-variants.{NoWhole, GotWhole}
+use Rattle.steps.specs.Transition.{Env, applied, counterOf, changedBy, changeOf, updateOne, unspent, left, withCounters, withZeroed, afterZero, updateCounter, zeroTransition, transitionAt, updateCounterAt}
+use Rattle.steps.specs.declared.Counter.{Counter}
+use Rattle.steps.specs.declared.Counted.{Counted}
+use Rattle.steps.specs.declared.Counted.the-variants.{Uncounted, NewValue}
+use Rattle.steps.specs.declared.MachineRuntime.{MachineRuntime}
+use Rattle.steps.specs.declared.Shared.{Shared}
+use Rattle.steps.specs.declared.TriggerAction.{TriggerAction}
+use Rattle.steps.specs.declared.Stepped.{Stepped}
+
+-- ---- one counter
+abbrev one : Bool → ℕ
+one b = cond b 1 0
+
+-- a report, if there is one, is what was left
+abbrev Spent : Bool → Counter → Type 0
+Spent zeroed a = unspent (a .zeroed) + one (a .reports) ≡ unspent zeroed
+
+abbrev made : Bool → ℕ → Bool → ℕ → Counter
+made reports value zeroed at = record { value = value; zeroed = zeroed || reports; reports = reports; at = at }
+
+made-spent : (p q z : Bool) (value at : ℕ) → Spent z (made (not p && q && not z) value z at)
+made-spent true q true value at = refl
+made-spent true q false value at = refl
+made-spent false true true value at = refl
+made-spent false true false value at = refl
+made-spent false false true value at = refl
+made-spent false false false value at = refl
+
+new-is : (a b : Counter) → NewValue a ≡ NewValue b → a ≡ b
+new-is a b e = cc
+
+by-case : (operation old : ℕ) (z : Bool) (at : ℕ) (a : Counter) (none : Bool) (d : WholeDrawn) →
+    cond none (counterOf false old z at) (changedBy operation old z d) ≡ NewValue a → Spent z a
+by-case operation old z at a true d e = subst (Spent z) (new-is _ _ e) (made-spent true true z old at)
+by-case operation old z at a false (NoWhole n) e = let o : _≡_ {A = ℕ} 0 1 = cc in omega arith
+by-case operation old z at a false (GotWhole w) e =
+    subst (Spent z) (new-is _ _ e)
+    (made-spent (eqb old 0) (eqb (applied operation old (w .value)) 0) z (applied operation old (w .value)) (w .at))
+
+spent : (row : List ℕ) (k : ℕ) (values : List Float) (at old other : ℕ) (z : Bool) (a : Counter) →
+    updateOne row k values at old other z ≡ NewValue a → Spent z a
+unfolding updateOne
+spent row k values at old other z a e =
+    by-case (getD row k 0) old z at a (eqb (getD row k 0) 0) (changeOf row k values at other) e
+
+-- ---- both counters
+sum-falls : (p q : Bool) (a b y z : ℕ) → a + one p ≡ y → b + one q ≡ z → (p || q) ≡ true → a + b < y + z
+sum-falls true true a b y z h k e = omega arith
+sum-falls true false a b y z h k e = omega arith
+sum-falls false true a b y z h k e = omega arith
+sum-falls false false a b y z h k e = let o : _≡_ {A = ℕ} 0 1 = cc in omega arith
+
+-- where a counter reports, fewer may still report
+module _ (row : List ℕ) (k l : ℕ) (values : List Float) (at at' old other old' other' : ℕ) (y z : Bool) (a b : Counter)
+    (at-a : updateOne row k values at old other y ≡ NewValue a)
+    (at-b : updateOne row l values at' old' other' z ≡ NewValue b)
+    (reports : (a .reports || b .reports) ≡ true) where
+  pub fewer : unspent (a .zeroed) + unspent (b .zeroed) < unspent y + unspent z
+  fewer =
+      sum-falls (a .reports) (b .reports) _ _ _ _ (spent row k values at old other y a at-a)
+      (spent row l values at' old' other' z b at-b) reports
+
+  pub one-less : (n : ℕ) → unspent y + unspent z ≤ n → unspent (a .zeroed) + unspent (b .zeroed) ≤ n - 1
+  one-less n h = omega (arith, fewer)
+
+-- ---- update_counter where one reports
+-- with any counter left, the CounterZero transition is a transition
+zero-is : (n : ℕ) (E : Env) (r : MachineRuntime) (s : Shared) (p : TriggerAction) →
+    0 < n → zeroTransition n E r s p ≡ transitionAt (n - 1) E counterZero r s p
+unfolding zeroTransition
+zero-is zero E r s p h = absurd (lt-irrefl 0 h)
+zero-is (suc n) E r s p h = let e : suc n - 1 ≡ n = omega arith in rw e
+
+module _ (E : Env) (row : List ℕ) (r : MachineRuntime) (s : Shared) (a b : Counter)
+    (at-a : updateOne row counterA (E .values) (s .«value_at») (r .«counter_a») (r .«counter_b») (s .«counter_a_zeroed») ≡ NewValue a)
+    (at-b : updateOne row counterB (E .values) (a .at) (r .«counter_b») (r .«counter_a») (s .«counter_b_zeroed») ≡ NewValue b)
+    (reports : (a .reports || b .reports) ≡ true) (n : ℕ) (enough : left s ≤ n) where
+  fall : left (withZeroed s a b) < left s
+  fall = fewer _ _ _ _ _ _ _ _ _ _ _ _ a b at-a at-b reports
+
+  -- it is the CounterZero transition
+  pub on-report : (p : TriggerAction) →
+      updateCounterAt n E row r s p
+      ≡ afterZero (transitionAt (n - 1) E counterZero (withCounters r (a .value) (b .value)) (withZeroed s a b) p)
+  unfolding updateCounter
+  on-report p = rw (at-a, at-b, reports, zero-is n _ _ _ _ (omega (arith, fall)))

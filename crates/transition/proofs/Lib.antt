@@ -1,0 +1,4 @@
+-- Laws that the proofs of `transition` cite.
+pub mod Counters
+pub mod Steps
+pub mod Events

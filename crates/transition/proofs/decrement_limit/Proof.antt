@@ -1,0 +1,60 @@
+-- `decrement_limit` meets its contract, by whether the limit is used up. Assumes nothing.
+use borrow.Author.Needs.{needs}
+use mathlib.Core.Path.{sym, _∙_}
+use Rattle.steps.specs.Transition.{decrementLimit}
+use Rattle.transition.specs.Transition.{at-most-two}
+use Rattle.transition.proofs.decrement_limit.Statement.{statement}
+use Rattle.transition.proofs.decrement_limit.Tie as tie
+
+saturating-sub-requires : tie.Need-saturating-sub-requires
+saturating-sub-requires c κs = search needs
+
+state-row-requires : tie.Need-state-row-requires
+state-row-requires c κs = search needs
+
+at-limit-requires : tie.Need-at-limit-requires
+at-limit-requires c κs = search needs
+
+no-action-requires : tie.Need-no-action-requires
+no-action-requires c κs = search needs
+
+transition-requires : tie.Need-transition-requires
+transition-requires c κs = search needs
+
+returns : tie.Need-returns
+unfolding decrementLimit
+returns c =
+    let at-at-limit = c .before .before .before in
+    let at-state-row = at-at-limit .before in
+    let at-saturating-sub = at-state-row .before in
+    let at-args = at-saturating-sub .before .before .before .before .before in
+    rw (rw (at-saturating-sub .saturating-sub .ensures, at-state-row .state-row .ensures) at
+    (sym (at-at-limit .at-limit .ensures) ∙ c .before .before .if1 .taken))
+    (rw (at-saturating-sub .saturating-sub .ensures, c .before .no-action .ensures) at
+    (c .transition .ensures 2 (at-most-two (at-args .args .s))))
+
+done-requires : tie.Need-done-requires
+done-requires c κs = search needs
+
+returns-2 : tie.Need-returns-2
+unfolding decrementLimit
+returns-2 c =
+    rw (rw (
+      c .before .before .before .before .saturating-sub .ensures,
+      c .before .before .before .state-row .ensures,
+    ) at
+    (sym (c .before .before .at-limit .ensures) ∙ c .before .if1 .left))
+    (rw (c .before .before .before .before .saturating-sub .ensures) at (c .done .ensures))
+
+pub decrement-limit-spec : {M : Type 1} → statement M
+decrement-limit-spec =
+    tie.close
+    (tie.spec
+    saturating-sub-requires
+    state-row-requires
+    at-limit-requires
+    no-action-requires
+    transition-requires
+    returns
+    done-requires
+    returns-2)

@@ -1,0 +1,73 @@
+-- `finish` meets its contract, by whether an action is scheduled and by what was drawn. Assumes nothing.
+use borrow.Author.Needs.{needs}
+use mathlib.Core.Path.{sym, _∙_}
+use Rattle.steps.specs.Transition.{finish}
+use Rattle.transition.proofs.finish.Statement.{statement}
+use Rattle.transition.proofs.finish.Tie as tie
+
+has-changed-requires : tie.Need-has-changed-requires
+has-changed-requires c κs = search needs
+
+both-requires : tie.Need-both-requires
+both-requires c κs = search needs
+
+schedule-action-requires : tie.Need-schedule-action-requires
+schedule-action-requires c κs = search needs
+
+enum-known-scheduled : tie.Need-enum-known-scheduled
+enum-known-scheduled c = search needs
+
+returns : tie.Need-returns
+unfolding finish
+returns c =
+    let at-schedule-action = c .before .before .before in
+    let at-if1 = at-schedule-action .before in
+    let at-both = at-if1 .before in
+    rw (
+      sym (at-both .both .ensures) ∙ at-if1 .if1 .taken,
+      sym (at-schedule-action .schedule-action .ensures) ∙ c .before .scheduled .given .1,
+    )
+
+enum-known-scheduled-2 : tie.Need-enum-known-scheduled-2
+enum-known-scheduled-2 c = search needs
+
+done-requires : tie.Need-done-requires
+done-requires c κs = search needs
+
+returns-2 : tie.Need-returns-2
+unfolding finish
+returns-2 c =
+    let at-schedule-action = c .before .before .before .before in
+    let at-if1 = at-schedule-action .before in
+    let at-both = at-if1 .before in
+    let at-has-changed = at-both .before .before .before .before in
+    rw (
+      sym (at-both .both .ensures) ∙ at-if1 .if1 .taken,
+      sym (at-schedule-action .schedule-action .ensures) ∙ c .before .before .scheduled2 .given .1,
+    )
+    (rw (at-has-changed .has-changed .ensures) at (c .done .ensures))
+
+done-requires-2 : tie.Need-done-requires-2
+done-requires-2 c κs = search needs
+
+returns-3 : tie.Need-returns-3
+unfolding finish
+returns-3 c =
+    let at-has-changed = c .before .before .before .before .before .before in
+    rw (sym (c .before .before .both .ensures) ∙ c .before .if1 .left)
+    (rw (at-has-changed .has-changed .ensures) at (c .done2 .ensures))
+
+pub finish-spec : {M : Type 1} → statement M
+finish-spec =
+    tie.close
+    (tie.spec
+    has-changed-requires
+    both-requires
+    schedule-action-requires
+    enum-known-scheduled
+    returns
+    enum-known-scheduled-2
+    done-requires
+    returns-2
+    done-requires-2
+    returns-3)

@@ -1,0 +1,2 @@
+-- What the contracts of `transition` cite beside the definitions of `steps`.
+pub mod Transition

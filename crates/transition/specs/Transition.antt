@@ -1,0 +1,26 @@
+-- The part of a transition that goes to a state of the machine, as a definition of its own, and a law for callers. Assumes nothing.
+use Prim.Native.Nat.{ℕ, _+_, _≤_}
+use native.Mathlib.Omega.{arith}
+use mathlib.Core.Bool.{Bool, true, false}
+use Rattle.machine.specs.State.{stateRow}
+use Rattle.steps.specs.Transition.{Env, enter, entering, unspent, left, zeroTransition}
+use Rattle.steps.specs.declared.MachineRuntime.{MachineRuntime}
+use Rattle.steps.specs.declared.Shared.{Shared}
+use Rattle.steps.specs.declared.TriggerAction.{TriggerAction}
+use Rattle.steps.specs.declared.Stepped.{Stepped}
+
+-- to state `next`, where n counters may still report zero
+abbrev pub goToAt : ℕ → Env → ℕ → MachineRuntime → Shared → TriggerAction → Stepped
+goToAt n E next r s p =
+    entering (zeroTransition n E) E (stateRow (E .rows) next) (r .«current_state») s p
+    (enter (stateRow (E .rows) next) (E .values) r next (s .«value_at»))
+
+-- two counters, so two reports at the most: the number that a caller of `transition` gives
+pub at-most-two : (s : Shared) → left s ≤ 2
+at-most-two s = either (s .«counter_a_zeroed») (s .«counter_b_zeroed»)
+  where
+    either : (a b : Bool) → unspent a + unspent b ≤ 2
+    either true true = omega arith
+    either true false = omega arith
+    either false true = omega arith
+    either false false = omega arith

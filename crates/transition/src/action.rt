@@ -1,0 +1,75 @@
+// framework.rs: the action that a state's row schedules (schedule_action).
+use machine::action::sample_duration;
+use machine::action::sample_timeout;
+use machine::constants::ACTION;
+use machine::constants::CANCEL;
+use machine::constants::FLAGS;
+use machine::constants::TIMER;
+use machine::constants::UPDATE_TIMER;
+use machine::dist::WholeDrawn;
+use machine::state::word;
+use steps::Scheduled;
+use steps::TriggerAction;
+ghost use mathlib.Core.Path.{_≡_};
+ghost use Rattle.steps.specs.Transition.{noAction, returnedFlags, returnedTimer, scheduleAction};
+
+pub fn no_action() -> TriggerAction
+    ensures { λ x. ⌜ x ≡ noAction ⌝ }
+{
+    TriggerAction {
+        kind: 0,
+        flags: 0,
+        timer: 0,
+        timeout: 0,
+        duration: 0,
+    }
+}
+
+// Cancel has no flags, and UpdateTimer's bypass bit is not returned.
+pub fn returned_flags(row: &[u64]) -> u64
+    ensures { λ x. ⌜ x ≡ returnedFlags (now (row .entry)) ⌝ }
+{
+    let action = word(row, ACTION);
+    if action == CANCEL {
+        return 0;
+    }
+    if action == UPDATE_TIMER {
+        return word(row, FLAGS) / 2 % 2 * 2;
+    }
+    word(row, FLAGS)
+}
+
+// Only Cancel names a timer.
+pub fn returned_timer(row: &[u64]) -> u64
+    ensures { λ x. ⌜ x ≡ returnedTimer (now (row .entry)) ⌝ }
+{
+    if word(row, ACTION) == CANCEL {
+        return word(row, TIMER);
+    }
+    0
+}
+
+// The timeout is drawn before the duration.
+pub fn schedule_action(row: &[u64], values: &[f64], at: usize) -> Scheduled
+    ensures { λ x. ⌜ x ≡ scheduleAction (now (row .entry)) (now (values .entry)) at ⌝ }
+{
+    let timeout = sample_timeout(row, values, at);
+    let t = match timeout {
+        WholeDrawn::NoWhole(n) => return Scheduled::Unset(n),
+        WholeDrawn::GotWhole(w) => w,
+    };
+    let duration = sample_duration(row, values, t.at);
+    match duration {
+        WholeDrawn::NoWhole(n) => Scheduled::Unset(n),
+        WholeDrawn::GotWhole(d) => {
+            let action = TriggerAction {
+                kind: word(row, ACTION),
+                flags: returned_flags(row),
+                timer: returned_timer(row),
+                timeout: t.value,
+                duration: d.value,
+            };
+            Scheduled::Set(action, d.at)
+        }
+    }
+}

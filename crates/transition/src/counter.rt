@@ -1,0 +1,92 @@
+// framework.rs: one counter of update_counter.
+use machine::constants::DECREMENT;
+use machine::constants::INCREMENT;
+use machine::counter::sample_value;
+use machine::dist::Whole;
+use machine::dist::WholeDrawn;
+use machine::state::word;
+use steps::Counted;
+use steps::Counter;
+ghost use mathlib.Core.Path.{_≡_};
+ghost use Prim.Native.Nat.{_≤_};
+ghost use Rattle.steps.specs.Transition as Spec;
+
+// Increment, Decrement, or Set.
+pub fn applied(operation: u64, old: u64, change: u64) -> u64
+    ensures { λ x. ⌜ x ≡ Spec.applied operation old change ⌝ }
+{
+    if operation == INCREMENT {
+        return numbers::saturating_add(old, change);
+    }
+    if operation == DECREMENT {
+        return numbers::saturating_sub(old, change);
+    }
+    change
+}
+
+// Whether a counter reaches zero from another value, for the first time in this call.
+pub fn reports_zero(old: u64, value: u64, zeroed: bool) -> bool
+    ensures { λ x. ⌜ x ≡ Spec.reportsZero old value zeroed ⌝ }
+{
+    if old == 0 {
+        return false;
+    }
+    if value == 0 {
+        return !zeroed;
+    }
+    false
+}
+
+pub fn counter_of(reports: bool, value: u64, zeroed: bool, at: usize) -> Counted
+    ensures { λ x. ⌜ x ≡ Spec.counterOf reports value zeroed at ⌝ }
+{
+    let zeroed = super::either(zeroed, reports);
+    Counted::NewValue(Counter {
+        value: value,
+        zeroed: zeroed,
+        reports: reports,
+        at: at,
+    })
+}
+
+// What a counter changes by: the other's value from before the update where copy is set, and else
+// a sample.
+pub fn change_of(row: &[u64], k: usize, values: &[f64], at: usize, other: u64) -> WholeDrawn
+    requires { ⌜ k ≤ 56 ⌝ }
+    ensures { λ x. ⌜ x ≡ Spec.changeOf (now (row .entry)) k (now (values .entry)) at other ⌝ }
+{
+    if word(row, k + 1) == 1 {
+        return WholeDrawn::GotWhole(Whole {
+            value: other,
+            at: at,
+        });
+    }
+    sample_value(row, k, values, at)
+}
+
+// The counter that begins at word k of the row.
+pub fn update_one(
+    row: &[u64],
+    k: usize,
+    values: &[f64],
+    at: usize,
+    old: u64,
+    other: u64,
+    zeroed: bool,
+) -> Counted
+    requires { ⌜ k ≤ 56 ⌝ }
+    ensures { λ x. ⌜ x ≡ Spec.updateOne (now (row .entry)) k (now (values .entry)) at old other zeroed ⌝ }
+{
+    let operation = word(row, k);
+    if operation == 0 {
+        return counter_of(false, old, zeroed, at);
+    }
+    let change = change_of(row, k, values, at, other);
+    match change {
+        WholeDrawn::NoWhole(n) => Counted::Uncounted(n),
+        WholeDrawn::GotWhole(w) => {
+            let value = applied(operation, old, w.value);
+            counter_of(reports_zero(old, value, zeroed), value, zeroed, w.at)
+        }
+    }
+}
