@@ -1,0 +1,13 @@
+//! Runs of the unchanged Rust: what linkrun must print, the framework's state, inputs to try, and
+//! comparing a program with it.
+
+pub mod answer;
+pub mod engine;
+pub mod random;
+pub mod stream;
+pub mod tape;
+
+/// What linkrun must print for an input, with the state after each call if asked for.
+pub fn run(bytes: &[u8], with_state: bool) -> Vec<u8> {
+    answer::print(&engine::answers(bytes), with_state)
+}
