@@ -2,12 +2,16 @@
 //! comparing a program with it.
 
 pub mod answer;
+pub mod compare;
 pub mod engine;
+pub mod generate;
 pub mod random;
+pub mod show;
+pub mod shrink;
 pub mod stream;
 pub mod tape;
 
 /// What linkrun must print for an input, with the state after each call if asked for.
 pub fn run(bytes: &[u8], with_state: bool) -> Vec<u8> {
-    answer::print(&engine::answers(bytes), with_state)
+    answer::print(&engine::answers(bytes, with_state), with_state)
 }

@@ -36,6 +36,7 @@ type Reference = Framework<Machines, Tape, Micros>;
 pub struct Session {
     framework: Reference,
     tape: Tape,
+    with_state: bool,
 }
 
 /// Runs a piece of the Rust to its end or to the draw that stops it (16, 17).
@@ -123,12 +124,13 @@ fn event_of([kind, machine]: [u64; 2]) -> Option<TriggerEvent> {
 }
 
 impl Session {
-    /// The opening's answer, and the framework where it is accepted.
-    pub fn open(stream: &Stream, tape: Tape) -> (Answer, Option<Session>) {
+    /// The opening's answer, and the framework where it is accepted. The state is left out of the
+    /// answers where it is not asked for, since printing it takes most of the time.
+    pub fn open(stream: &Stream, tape: Tape, with_state: bool) -> (Answer, Option<Session>) {
         match opening(stream, &tape) {
             Err(refusal) => (Answer::closed(refusal), None),
             Ok(framework) => {
-                let session = Session { framework, tape };
+                let session = Session { framework, tape, with_state };
                 (session.answer(Vec::new(), (0, 0)), Some(session))
             }
         }
@@ -148,6 +150,9 @@ impl Session {
     }
 
     fn state(&self) -> Vec<u64> {
+        if !self.with_state {
+            return Vec::new();
+        }
         let words = state::words(&self.framework);
         let ended = words[FRAMEWORK_WORDS..].chunks(MACHINE_WORDS).all(|machine| machine[0] == END);
         assert_eq!(
@@ -186,11 +191,12 @@ impl Session {
 }
 
 /// The answers to a whole input, the opening's first.
-pub fn answers(bytes: &[u8]) -> Vec<Answer> {
+pub fn answers(bytes: &[u8], with_state: bool) -> Vec<Answer> {
     let Some(stream) = Stream::parse(bytes) else {
         return vec![Answer::closed(21)];
     };
-    let (first, session) = Session::open(&stream, Tape::new(&stream.chances, &stream.values));
+    let (first, session) =
+        Session::open(&stream, Tape::new(&stream.chances, &stream.values), with_state);
     let mut answers = vec![first];
     if let Some(mut session) = session {
         answers.extend(stream.calls.iter().map(|call| session.call(call.time, &call.events)));
