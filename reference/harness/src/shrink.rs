@@ -40,6 +40,26 @@ impl Cut<'_> {
         any
     }
 
+    /// Drops rows by a function that drops one of them and renumbers the rest.
+    fn drop_rows(&mut self, rows: usize, drop_row: impl Fn(&mut Stream, usize)) -> bool {
+        let mut any = false;
+        let mut size = rows.next_power_of_two();
+        let mut end_of_table = rows;
+        while size > 0 {
+            let mut end = end_of_table;
+            while end > 0 {
+                let from = end.saturating_sub(size);
+                if self.attempt(|s| (from..end).rev().for_each(|row| drop_row(s, row))) {
+                    any = true;
+                    end_of_table -= end - from;
+                }
+                end = from;
+            }
+            size /= 2;
+        }
+        any
+    }
+
     fn zero(&mut self, word: impl Fn(&mut Stream) -> &mut u64) -> bool {
         self.attempt(|s| *word(s) = 0)
     }
@@ -49,9 +69,9 @@ impl Cut<'_> {
         for call in 0..self.best.calls.len() {
             any |= self.drop_from(|s| &mut s.calls[call].events);
         }
-        any |= self.drop_from(|s| &mut s.machines);
-        any |= self.drop_from(|s| &mut s.states);
-        any |= self.drop_from(|s| &mut s.transitions);
+        any |= self.drop_rows(self.best.machines.len(), drop_machine);
+        any |= self.drop_rows(self.best.states.len(), drop_state);
+        any |= self.drop_rows(self.best.transitions.len(), drop_transition);
         any |= self.drop_from(|s| &mut s.chances);
         any |= self.drop_from(|s| &mut s.values);
         for state in 0..self.best.states.len() {
@@ -89,6 +109,43 @@ impl Cut<'_> {
             }
         }
         any
+    }
+}
+
+fn drop_machine(stream: &mut Stream, machine: usize) {
+    stream.machines.remove(machine);
+    for call in &mut stream.calls {
+        for event in &mut call.events {
+            if event[1] > machine as u64 {
+                event[1] -= 1;
+            }
+        }
+    }
+}
+
+/// The first row and count of rows after the table has lost one.
+fn without(row: u64, first: &mut u64, count: &mut u64) {
+    if *first > row {
+        *first -= 1;
+    } else if row - *first < *count {
+        *count -= 1;
+    }
+}
+
+fn drop_state(stream: &mut Stream, state: usize) {
+    stream.states.remove(state);
+    for [.., first, count] in &mut stream.machines {
+        without(state as u64, first, count);
+    }
+}
+
+fn drop_transition(stream: &mut Stream, transition: usize) {
+    stream.transitions.remove(transition);
+    for state in &mut stream.states {
+        for pair in state[PAIRS..].as_chunks_mut::<2>().0 {
+            let [first, count] = pair;
+            without(transition as u64, first, count);
+        }
     }
 }
 
