@@ -2,13 +2,27 @@
 
 use crate::random::Random;
 use standins::RngCore;
-use std::cell::RefCell;
+use std::cell::{Cell, RefCell};
 use std::fmt;
 use std::panic::resume_unwind;
 use std::rc::Rc;
 
 /// What a draw that the tape cannot give throws out of the Rust: refusal 16 or 17.
 pub struct Stopped(pub u64);
+
+thread_local! {
+    static LAST_STOP: Cell<&'static str> = const { Cell::new("none") };
+}
+
+/// Which draw stopped a run last: a chance, or a value for a Uniform or drawn outside.
+pub fn last_stop() -> &'static str {
+    LAST_STOP.get()
+}
+
+fn stop(refusal: u64, draw: &'static str) -> ! {
+    LAST_STOP.set(draw);
+    resume_unwind(Box::new(Stopped(refusal)))
+}
 
 #[derive(Default)]
 struct Draws {
@@ -61,12 +75,12 @@ impl Tape {
         (draws.chances.clone(), draws.values.clone())
     }
 
-    fn value(&self, invented: impl FnOnce(&mut Random) -> f64) -> f64 {
+    fn value(&self, draw: &'static str, invented: impl FnOnce(&mut Random) -> f64) -> f64 {
         let mut draws = self.0.borrow_mut();
         if draws.values_taken == draws.values.len() {
             let Some(inventor) = &mut draws.inventor else {
                 drop(draws);
-                resume_unwind(Box::new(Stopped(16)));
+                stop(16, draw);
             };
             let word = invented(inventor).to_bits();
             draws.values.push(word);
@@ -83,7 +97,7 @@ impl RngCore for Tape {
             if draws.chances_taken == draws.chances.len() {
                 let Some(inventor) = &mut draws.inventor else {
                     drop(draws);
-                    resume_unwind(Box::new(Stopped(16)));
+                    stop(16, "chance");
                 };
                 let word = inventor.chance().to_bits() as u64;
                 draws.chances.push(word);
@@ -92,20 +106,20 @@ impl RngCore for Tape {
             f32::from_bits(draws.chances[draws.chances_taken - 1] as u32)
         };
         if !(0.0..1.0).contains(&chance) {
-            resume_unwind(Box::new(Stopped(17)));
+            stop(17, "chance");
         }
         chance
     }
 
     fn uniform(&mut self, low: f64, high: f64) -> f64 {
-        let value = self.value(|random| random.within(low, high));
+        let value = self.value("Uniform", |random| random.within(low, high));
         if !(low..high).contains(&value) {
-            resume_unwind(Box::new(Stopped(17)));
+            stop(17, "Uniform");
         }
         value
     }
 
     fn outside(&mut self) -> f64 {
-        self.value(Random::outside)
+        self.value("outside", Random::outside)
     }
 }

@@ -190,16 +190,15 @@ impl Session {
     }
 }
 
-/// The answers to a whole input, the opening's first.
-pub fn answers(bytes: &[u8], with_state: bool) -> Vec<Answer> {
+/// Hands over the answers to a whole input one by one, the opening's first.
+pub fn each_answer(bytes: &[u8], with_state: bool, mut take: impl FnMut(Answer)) {
     let Some(stream) = Stream::parse(bytes) else {
-        return vec![Answer::closed(21)];
+        return take(Answer::closed(21));
     };
-    let (first, session) =
-        Session::open(&stream, Tape::new(&stream.chances, &stream.values), with_state);
-    let mut answers = vec![first];
+    let tape = Tape::new(&stream.chances, &stream.values);
+    let (first, session) = Session::open(&stream, tape, with_state);
+    take(first);
     if let Some(mut session) = session {
-        answers.extend(stream.calls.iter().map(|call| session.call(call.time, &call.events)));
+        stream.calls.iter().for_each(|call| take(session.call(call.time, &call.events)));
     }
-    answers
 }

@@ -295,7 +295,8 @@ impl Maker<'_> {
                 },
                 Role::Counter => match r.below(8) {
                     0 => r.one_of(&[0.5, 1.5, 7.5, -1.0, 1e18, 1.8e19, 1.9e19]),
-                    _ => r.small(4) as f64,
+                    1..4 => r.small(4) as f64,
+                    _ => (1 + r.small(3)) as f64,
                 },
             };
             // -0.0 to 0.0 is a Uniform whose bounds are equal
