@@ -2,6 +2,7 @@
 //! comparing a program with it.
 
 pub mod answer;
+pub mod cases;
 pub mod compare;
 pub mod engine;
 pub mod generate;

@@ -51,7 +51,7 @@ pub fn tapes(random: &mut Random) -> Stream {
 }
 
 fn base(random: &mut Random) -> Stream {
-    let style = Style { machines: 3, ..Style::small() };
+    let style = Style { machines: 3, row: 20, internal_row: 20, ..Style::small() };
     let mut stream = valid(random, style);
     while stream.machines.is_empty() {
         stream = valid(random, Style::small());

@@ -37,7 +37,7 @@ pub fn input(family: &str, seed: u64) -> Vec<u8> {
     let mut random = Random::new(Random::new(seed).word() ^ place << 56);
     match family {
         "valid" => played(&mut random, Style::plain(), Sending::plain()),
-        "counters" => played(&mut random, Style::counters(), Sending::plain()),
+        "counters" => played(&mut random, Style::counters(), Sending::lasting()),
         "signals" => played(&mut random, Style::signals(), Sending::plain()),
         "limits" => played(&mut random, Style::limits(), Sending::answering()),
         "samples" => played(&mut random, Style::samples(), Sending::answering()),
@@ -62,8 +62,11 @@ fn played(random: &mut Random, style: Style, sending: Sending) -> Stream {
 }
 
 fn large(random: &mut Random) -> Stream {
-    let style = if random.often(50) { Style::many() } else { Style::plain() };
-    played(random, style, Sending::long())
+    match random.below(3) {
+        0 => played(random, Style::many(), Sending::long()),
+        1 => played(random, Style::many(), Sending::short()),
+        _ => played(random, Style::plain(), Sending::long()),
+    }
 }
 
 /// Drops calls from the end until the input is short enough.

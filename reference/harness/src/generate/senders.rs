@@ -36,6 +36,10 @@ impl Sending {
         Sending { answering: 70, calls: 12, ..Sending::plain() }
     }
 
+    pub fn lasting() -> Sending {
+        Sending { calls: 24, ..Sending::plain() }
+    }
+
     pub fn blocking() -> Sending {
         Sending {
             kinds: [1, 0, 0, 1, 1, 0, 6, 4, 1, 0],
@@ -48,6 +52,10 @@ impl Sending {
 
     pub fn long() -> Sending {
         Sending { calls: 600, events: 2, ..Sending::plain() }
+    }
+
+    pub fn short() -> Sending {
+        Sending { calls: 6, ..Sending::plain() }
     }
 }
 

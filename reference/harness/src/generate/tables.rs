@@ -51,7 +51,18 @@ impl Style {
     }
 
     pub fn counters() -> Style {
-        Style { counter: 85, internal_row: 90, drawn: 25, bounds: 10, end: 4, ..Style::plain() }
+        Style {
+            machines: 3,
+            states: 4,
+            counter: 85,
+            row: 80,
+            internal_row: 95,
+            drawn: 25,
+            bounds: 10,
+            end: 6,
+            sure: 85,
+            ..Style::plain()
+        }
     }
 
     pub fn signals() -> Style {
