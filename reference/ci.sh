@@ -1,0 +1,20 @@
+#!/usr/bin/env bash
+# Builds and tests the reference, and checks that the recorded corpus is what the Rust answers. Where cargo
+# or the Rust sources are missing it says so and ends well: the recorded corpus then stands for them.
+set -euo pipefail
+cd "$(dirname "$0")"
+
+command -v cargo > /dev/null || { echo "reference: cargo is not here, nothing was compared"; exit 0; }
+sources=${MAYBENOT_SRC:-$(cat SOURCES)}
+[ -f "$sources/framework.rs" ] || { echo "reference: no Rust sources in $sources, nothing was compared"; exit 0; }
+MAYBENOT_SRC=$(cd "$sources" && pwd)
+export MAYBENOT_SRC
+
+out=$(mktemp -d)
+trap 'rm -rf "$out"' EXIT
+cargo build --release --offline --quiet
+cargo test --release --offline --quiet > "$out/tests" 2>&1 || { cat "$out/tests"; exit 1; }
+target/release/record "$out/corpus"
+diff -r -x README.md corpus "$out/corpus"
+target/release/coverage corpus > "$out/coverage" || { cat "$out/coverage"; exit 1; }
+echo "reference: the tests pass, the corpus is what the Rust answers, $(tail -n 1 "$out/coverage")"

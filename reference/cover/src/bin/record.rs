@@ -1,0 +1,56 @@
+//! record DIR: writes the corpus with the Rust's answers, DIR/*.bin for replay and DIR/printed/NAME.in
+//! with NAME.out for linkrun. The same sources give the same bytes.
+
+use cover::choose::{Chosen, corpus};
+use cover::corpus::case;
+use harness::{answers, run, stream};
+use std::path::Path;
+
+/// Inputs longer than this stay out of the files for replay.
+const LONGEST: usize = 4000;
+
+fn write(path: &Path, bytes: &[u8]) {
+    std::fs::write(path, bytes).unwrap_or_else(|e| panic!("{}: {e}", path.display()));
+}
+
+/// A case's name as a file's.
+fn file_name(name: &str) -> String {
+    let plain = name.replace(|c: char| !c.is_ascii_alphanumeric() && c != '.', " ");
+    plain.split_whitespace().collect::<Vec<&str>>().join("-")
+}
+
+/// Of the inputs by hand those for a number, a reading or the worked example; of a family a few short ones.
+fn printed<'a>(file: &str, inputs: &'a [Chosen]) -> Vec<&'a Chosen> {
+    if file == "cases" {
+        let shown = |c: &&Chosen| {
+            c.name.starts_with(|first: char| first.is_ascii_digit() || "rw".contains(first))
+        };
+        return inputs.iter().filter(shown).collect();
+    }
+    let mut short: Vec<&Chosen> = inputs.iter().filter(|c| c.bytes.len() < 1300).collect();
+    short.sort_by_key(|c| std::cmp::Reverse(c.counts.len()));
+    short.truncate(2);
+    short
+}
+
+fn main() {
+    let Some(dir) = std::env::args().nth(1) else {
+        eprintln!("record DIR");
+        std::process::exit(2);
+    };
+    let dir = Path::new(&dir);
+    std::fs::create_dir_all(dir.join("printed")).expect("DIR/printed");
+    for (file, inputs) in corpus() {
+        let whole = inputs.iter().filter_map(|c| Some((stream::words(&c.bytes)?, c)));
+        let short = whole.filter(|(words, _)| words.len() <= LONGEST);
+        let words: Vec<u64> =
+            short.flat_map(|(words, c)| case(&words, &answers(&c.bytes, true))).collect();
+        write(&dir.join(format!("{file}.bin")), &stream::bytes(&words));
+        for chosen in printed(&file, &inputs) {
+            let name = dir.join("printed").join(file_name(&chosen.name));
+            // the name may end in a number with a point
+            write(Path::new(&format!("{}.in", name.display())), &chosen.bytes);
+            write(Path::new(&format!("{}.out", name.display())), &run(&chosen.bytes, false));
+        }
+    }
+}
