@@ -12,6 +12,7 @@ pub mod Rows
 pub mod Batches
 pub mod Opening
 pub mod Theorem
+pub mod Reached
 use Prim.Native.Nat.{ℕ, zero, suc, _+_, _-_, _*_, _^_, _≤_, _<_}
 use mathlib.Core.List.{List, [], _∷_}
 use mathlib.Core.Bool.{Bool, true, false, cond, _&&_, _||_}

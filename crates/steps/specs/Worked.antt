@@ -16,9 +16,9 @@ use Rattle.machine.specs.Dist.{zeroF, distType, distAt, validUniform, validate,
 use Rattle.machine.specs.Action.{sampleTimeout, sampleDuration, sampleLimit, hasLimit}
 use Rattle.machine.specs.State.{rowsOf, chanceDraw, walk, sampleState}
 use Rattle.tables.specs.First.{orElse, firstRefusal}
-use Rattle.tables.specs.State.{seenIn, transitionRefusal, sumFrom, rowRefusal, pairRefusal, actionUnknown, counterUnknown, actionInvalid, counterInvalid, fieldsRefusal, stateRefusal}
-use Rattle.tables.specs.Machine.{statesRefusal, machineRefusal, tablesRefusal}
-use Rattle.tables.specs.Framework.{fractionsRefusal}
+use Rattle.tables.specs.State.{eventsRefusal, pairRefusal, rowRefusal, sumRefusal, transitionRefusal, isTarget, improbable, seenIn, sumFrom, codesUnknown, actionUnknown, commonUnknown, neededUnknown, counterUnknown, distsInvalid, actionInvalid, counterInvalid, invalid, stateRefusal}
+use Rattle.tables.specs.Machine.{beyondFraction, eachState, statesRefusal, machineRefusal, wholeTables, tablesRefusal}
+use Rattle.tables.specs.Framework.{isFraction, fractionsRefusal}
 use Rattle.steps.specs.Limits.{belowFraction, belowLimitPadding, belowActionLimits}
 use Rattle.steps.specs.Transition.{enter, raise, scheduleAction, applied, updateOne, updateCounter, finish, transitionBy, zeroTransition, decrementLimit}
 use Rattle.steps.specs.Events.{Tables, Tapes, each, noRuntime, countedBy, blockedFor, accounted, turn, machineTurn, processEvent, signalMachine, signals}
@@ -79,10 +79,10 @@ answered = record {
 
 pub opens : opening tables zeroF zeroF 0 [] ≡ accepted
 unfolding
-    opening fractionsRefusal
-    validUniform tablesRefusal orElse firstRefusal machineRefusal statesRefusal stateRefusal pairRefusal rowRefusal transitionRefusal seenIn sumFrom fieldsRefusal actionUnknown counterUnknown actionInvalid counterInvalid validate distAt distType isFinite rowsOf openTurn startLimit sampleLimit hasLimit each ofBits lt le add sub
+    opening fractionsRefusal isFraction
+    validUniform tablesRefusal orElse firstRefusal wholeTables machineRefusal beyondFraction statesRefusal eachState stateRefusal eventsRefusal pairRefusal rowRefusal sumRefusal transitionRefusal isTarget improbable seenIn sumFrom codesUnknown actionUnknown commonUnknown neededUnknown counterUnknown distsInvalid actionInvalid counterInvalid invalid validate distAt distType isFinite rowsOf openTurn startLimit sampleLimit hasLimit each ofBits lt le add sub
 opens = refl
 
 pub runs : batch (after 0 0) tables 5 (normalSent ∷ 0 ∷ []) (record { chances = f32 quarter32 ∷ []; values = [] }) (replicate 7 9) ≡ answered
-unfolding validUniform batch batchRefusal fitsTables statesFit eventsFit kindsFit tablesRefusal orElse firstRefusal machineRefusal statesRefusal stateRefusal pairRefusal rowRefusal transitionRefusal seenIn sumFrom fieldsRefusal actionUnknown counterUnknown actionInvalid counterInvalid validate distAt distType isFinite rowsOf each ofBits lt le add sub triggerEvents processEvent accounted blockedFor machineTurn turn countedBy eventOf transitionBy chanceDraw sampleState walk enter updateCounter updateOne belowActionLimits belowLimitPadding belowFraction finish scheduleAction sampleTimeout sampleDuration sample distSample uniformDraw eq adjusted capped orZero roundAway signals actionRows
+unfolding validUniform batch batchRefusal fitsTables statesFit eventsFit kindsFit tablesRefusal orElse firstRefusal wholeTables machineRefusal beyondFraction statesRefusal eachState stateRefusal eventsRefusal pairRefusal rowRefusal sumRefusal transitionRefusal isTarget improbable seenIn sumFrom codesUnknown actionUnknown commonUnknown neededUnknown counterUnknown distsInvalid actionInvalid counterInvalid invalid validate distAt distType isFinite rowsOf each ofBits lt le add sub triggerEvents processEvent accounted blockedFor machineTurn turn countedBy eventOf transitionBy chanceDraw sampleState walk enter updateCounter updateOne belowActionLimits belowLimitPadding belowFraction finish scheduleAction sampleTimeout sampleDuration sample distSample uniformDraw eq adjusted capped orZero roundAway signals actionRows
 runs = refl

@@ -3,17 +3,17 @@
 use Prim.Native.Nat.{ℕ, zero, suc, _+_, _*_, _-_, _^_, _≤_, _<_, min}
 use native.Mathlib.Nat.{le-trans, le-of-lt}
 use native.Mathlib.Omega.{arith}
-use mathlib.Core.Bool.{Bool, true, false, cond, _&&_, false≢true}
+use mathlib.Core.Bool.{Bool, true, false, cond, false≢true}
 use mathlib.Core.Logic.{_⊎_, inl, inr}
-use mathlib.Core.Path.{_≡_, refl, sym, ap, _∙_, subst}
+use mathlib.Core.Path.{_≡_, refl, sym, ap, _∙_}
 use lib.Dec.{T, ltb, eqb}
-use lib.Ieee.{Float, inf, binary64, ofBits, lt, fits}
+use lib.Ieee.{Float, binary64, ofBits, lt, fits}
 use lib.Ieee.Bits.{ofBits-fits}
 use lib.Ieee.Positive.{positive}
 use borrow.Author.Tests.{ltb-true, eqb-true, eqb-false}
 use Rattle.numbers.specs.Fraction.{reached, in1074}
-use Rattle.numbers.specs.Fraction.Units.{units-positive, positive-is}
-use Rattle.numbers.specs.Fraction.Exact.{passed-is-below}
+use Rattle.numbers.specs.Fraction.Laws.{units-positive, passed-is-below}
+use Rattle.numbers.specs.Positive.{positive-above}
 use Rattle.numbers.specs.Saturating.{saturatingAdd}
 use Rattle.machine.specs.Constants.{maxPaddingFrac}
 use Rattle.machine.specs.Dist.{zeroF}
@@ -40,14 +40,10 @@ unfolding belowFraction ofBits
 fraction-on f p n rest k h small t = total (eqb (p + n) 0) refl (sym inside ∙ t)
   where
     pos : T (positive f)
-    pos = units-positive binary64 f h
-
-    first : (a b : Bool) → T (a && b) → a ≡ true
-    first true b t = refl
-    first false b t = absurd t
+    pos = units-positive f h
 
     on : lt zeroF f ≡ true
-    on = first (lt zeroF f) (lt f (inf false)) (subst T (positive-is f) pos)
+    on = positive-above f pos
 
     tested : ℕ → Bool
     tested total = cond (eqb total 0) true (cond (reached p total f) false rest)
@@ -64,7 +60,7 @@ fraction-on f p n rest k h small t = total (eqb (p + n) 0) refl (sym inside ∙ 
     stops : (r : Bool) → reached p (p + n) f ≡ r → (p + n ≡ 0 → ⊥) → cond r false rest ≡ true → Open f p n rest
     stops true e z u = absurd (false≢true u)
     stops false e z u =
-        inr (passed-is-below binary64 f p (p + n) k pos (le-trans (more p n) small) small (above (p + n) z) (unfold reached in e), u)
+        inr (passed-is-below f p (p + n) k pos (le-trans (more p n) small) small (above (p + n) z) e, u)
 
     total : (b : Bool) → eqb (p + n) 0 ≡ b → cond b true (cond (reached p (p + n) f) false rest) ≡ true → Open f p n rest
     total true e u = inl (eqb-true (p + n) 0 e)

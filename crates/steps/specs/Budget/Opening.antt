@@ -14,10 +14,10 @@ use lib.Ieee.{Float, nan, inf, fin, binary64, ofBits, fits, lt, le}
 use lib.Ieee.Bits.{ofBits-fits}
 use lib.Ieee.Fits.{and-l, and-r}
 use lib.Ieee.Positive.{positive}
-use lib.Ieee.Scale.{finite}
 use borrow.Author.Tests.{eqb-true, eqb-false}
 use Rattle.numbers.specs.Fraction.{in1074}
-use Rattle.numbers.specs.Fraction.Units.{positive-units, above-zero, limit-positive}
+use Rattle.numbers.specs.Fraction.Laws.{positive-units}
+use Rattle.numbers.specs.Positive.{positive-is, limit-positive}
 use Rattle.machine.specs.Constants.{machineMax, machineWords, stateWords, transitionWords, maxPaddingFrac, maxBlockingFrac, allowedBlockedMicrosec}
 use Rattle.machine.specs.Dist.{zeroF, f64At}
 use Rattle.machine.specs.Action.{actionOf}
@@ -77,6 +77,7 @@ module _ (machines states ts : List ℕ) (ok : tablesRefusal machines states ts 
       by false h = absurd (zero-one 2 h)
 
   pub at-most-16 : rowsIn machines ≤ machineMax
+  unfolding wholeTables
   at-most-16 =
       leb→le (rowsIn machines) machineMax
       (and-r (eqb (length machines % machineWords) 0 && eqb (length states % stateWords) 0 && eqb (length ts % transitionWords) 0)
@@ -84,7 +85,7 @@ module _ (machines states ts : List ℕ) (ok : tablesRefusal machines states ts 
 
   -- a machine's fraction is not above 1
   not-above-1 : (i : ℕ) → i < rowsIn machines → lt (ofBits binary64 0x3ff0_0000_0000_0000) (ofBits binary64 (machineWord machines i maxPaddingFrac)) ≡ false
-  unfolding machineRefusal refusalOf rowsOf
+  unfolding machineRefusal beyondFraction refusalOf rowsOf
   not-above-1 i h =
       ap (λ (w : ℕ). lt (ofBits binary64 0x3ff0_0000_0000_0000) (ofBits binary64 w)) (sym word)
       ∙ by (lt (f64At row maxPaddingFrac) (ofBits binary64 0)) (lt (ofBits binary64 0x3ff0_0000_0000_0000) (f64At row maxPaddingFrac)) _
@@ -108,23 +109,23 @@ module _ (machines states ts : List ℕ) (ok : tablesRefusal machines states ts 
       → 0 < in1074 (ofBits binary64 (machineWord machines i maxPaddingFrac))
   unfolding ofBits
   machine-units i h above =
-      positive-units binary64 (ofBits binary64 (machineWord machines i maxPaddingFrac)) (ofBits-fits binary64 (machineWord machines i maxPaddingFrac))
+      positive-units (ofBits binary64 (machineWord machines i maxPaddingFrac)) (ofBits-fits binary64 (machineWord machines i maxPaddingFrac))
       (limit-positive (ofBits binary64 (machineWord machines i maxPaddingFrac)) above (not-above-1 i h))
 
 -- ---- the framework's fraction
-fraction-finite : (x : Float) → lt zeroF x ≡ true → T (le x (ofBits binary64 0x3ff0_0000_0000_0000)) → T (finite x)
+fraction-positive : (x : Float) → lt zeroF x ≡ true → T (le x (ofBits binary64 0x3ff0_0000_0000_0000)) → T (positive x)
 unfolding lt le ofBits
-fraction-finite nan a b = absurd b
-fraction-finite (inf true) a b = absurd (false≢true a)
-fraction-finite (inf false) a b = absurd b
-fraction-finite (fin s m e) a b = tt
+fraction-positive nan a b = absurd b
+fraction-positive (inf true) a b = absurd (false≢true a)
+fraction-positive (inf false) a b = absurd b
+fraction-positive (fin s m e) a b = subst T (sym (positive-is (fin s m e) ∙ ap (λ (c : Bool). c && true) a)) tt
 
 pub framework-units : (F blocking : Float) → T (fits binary64 F) → fractionsRefusal F blocking ≡ 0 → lt zeroF F ≡ true → 0 < in1074 F
-unfolding fractionsRefusal ofBits
+unfolding fractionsRefusal isFraction
 framework-units F blocking k ok above =
-    positive-units binary64 F k
-    (above-zero F (fraction-finite F above (and-r (le zeroF F) (le F (ofBits binary64 0x3ff0_0000_0000_0000)) (by (isFraction F) (isFraction blocking) ok)))
-    (subst T (sym above) tt))
+    positive-units F k
+    (fraction-positive F above
+    (and-r (le zeroF F) (le F (ofBits binary64 0x3ff0_0000_0000_0000)) (by (isFraction F) (isFraction blocking) ok)))
   where
     by : (a b : Bool) → cond {A = ℕ} a (cond b 0 2) 1 ≡ 0 → T a
     by true b h = tt
