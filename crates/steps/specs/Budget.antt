@@ -7,6 +7,8 @@ pub mod Invariant
 pub mod Check
 pub mod Draws
 pub mod Machine
+pub mod Counts
+pub mod Runs
 pub mod Turns
 pub mod Rows
 pub mod Batches

@@ -4,7 +4,7 @@ use mathlib.Core.Bool.{Bool, true, false}
 use mathlib.Core.List.{List, [], _∷_, _++_}
 use mathlib.Core.Path.{_≡_, refl}
 use lib.IntN.{pos}
-use lib.Ieee.{Float, inf, fin, binary32, binary64, ofBits, ofInt, toUnsigned, add, lt, le, eq, div}
+use lib.Ieee.{Float, inf, fin, binary64, ofBits, ofInt, toUnsigned, add, lt, le, eq, div}
 use Rattle.numbers.specs.Finite.{isFinite}
 use Rattle.numbers.specs.Fraction.{reached}
 use Rattle.numbers.specs.Round.{roundAway}
@@ -18,7 +18,7 @@ use Rattle.machine.specs.declared.dist.DistType.the-variants.{Outside}
 use Rattle.machine.specs.declared.dist.Dist.{Dist}
 use Rattle.machine.specs.declared.dist.WholeDrawn.{WholeDrawn}
 use Rattle.machine.specs.declared.state.Next.{Next}
-use Rattle.machine.specs.declared.state.Next.the-variants.{State, Nothing}
+use Rattle.machine.specs.declared.state.Next.the-variants.{State}
 use Rattle.steps.specs.Limits.{belowFraction, belowLimitPadding, belowActionLimits}
 use Rattle.steps.specs.Transition.{Env, env, noAction, enter, applied, updateOne, updateCounter, finish, transitionBy, zeroTransition, transition}
 use Rattle.steps.specs.Example.{stateWith, pairFirst, pairCount, f32, f64, half32, one32, half64, one64, two64, five64}

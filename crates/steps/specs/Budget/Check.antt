@@ -1,6 +1,6 @@
 -- What a passed check of below_limit_padding says of exact numbers: by monotone rounding the test of an f64 quotient is an inequality
 -- of whole numbers. So the checks are what the invariant asks of them. Assumes nothing.
-use Prim.Native.Nat.{ℕ, zero, suc, _+_, _*_, _-_, _^_, _≤_, _<_, min}
+use Prim.Native.Nat.{ℕ, _+_, _*_, _^_, _≤_, _<_}
 use native.Mathlib.Nat.{le-trans, le-of-lt}
 use native.Mathlib.Omega.{arith}
 use mathlib.Core.Bool.{Bool, true, false, cond, false≢true}
@@ -15,7 +15,7 @@ use Rattle.numbers.specs.Fraction.{reached, in1074}
 use Rattle.numbers.specs.Fraction.Laws.{units-positive, passed-is-below}
 use Rattle.numbers.specs.Positive.{positive-above}
 use Rattle.numbers.specs.Saturating.{saturatingAdd}
-use Rattle.machine.specs.Constants.{maxPaddingFrac}
+use Rattle.machine.specs.Constants.{machineMax, maxPaddingFrac}
 use Rattle.machine.specs.Dist.{zeroF}
 use Rattle.steps.specs.Limits.{limitLeft, belowFraction, belowLimitPadding}
 use Rattle.steps.specs.Events.{Tables, machineWord}
@@ -132,20 +132,28 @@ module _ (allowed : ℕ) (f F : Float) (p n s : ℕ) (x : Passed allowed f F p n
       under : (p n s : ℕ) → p ≤ s → s + n ≡ 0 → p + n ≡ 0
       under p n s l z = omega arith
 
--- ---- the checks of the tables' machines, under the framework's fraction
-abbrev pub PassedAt : Tables → Float → ℕ → ℕ → ℕ → ℕ → Type 0
-PassedAt tables F i p n s = Passed (allowance tables i) (fraction tables i) F p n s
+-- ---- what an accepted opening fixes: its tables, of at most 16 machines, and the framework's fraction, an f64
+pub record Setup : Type 0 where
+  pub tables : Tables
+  pub F : Float
+  pub f64 : T (fits binary64 F)
+  pub few : rowsIn (tables .machines) ≤ machineMax
 
-abbrev pub checks : (tables : Tables) (F : Float) → T (fits binary64 F) → Checks
-checks tables F k = record {
+abbrev pub machinesOf : Setup → ℕ
+machinesOf S = rowsIn (S .tables .machines)
+
+abbrev pub checks : Setup → Checks
+checks S = record {
   U = 2 ^ 1074;
   cap = 2 ^ 53;
-  M = rowsIn (tables .machines);
-  G = in1074 F;
-  A = allowance tables;
-  g = λ i. in1074 (fraction tables i);
-  Pass = PassedAt tables F;
+  M = machinesOf S;
+  G = in1074 (S .F);
+  A = allowance (S .tables);
+  g = λ i. in1074 (fraction (S .tables) i);
+  Pass = λ i. Passed (allowance (S .tables) i) (fraction (S .tables) i) (S .F);
   own-law = λ i p n s m h l small x.
-      own-passed (allowance tables i) (fraction tables i) F p n s x l small (ofBits-fits binary64 (machineWord (tables .machines) i maxPaddingFrac)) h;
-  all-law = λ i p n s m h l small x. all-passed (allowance tables i) (fraction tables i) F p n s x l small k h;
+      own-passed (allowance (S .tables) i) (fraction (S .tables) i) (S .F) p n s x l small
+      (ofBits-fits binary64 (machineWord (S .tables .machines) i maxPaddingFrac)) h;
+  all-law = λ i p n s m h l small x.
+      all-passed (allowance (S .tables) i) (fraction (S .tables) i) (S .F) p n s x l small (S .f64) h;
 }

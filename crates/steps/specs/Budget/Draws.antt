@@ -7,7 +7,7 @@ use lib.ListN.{length, getD}
 use lib.Ieee.{Float, nan, eq, le, lt, toUnsigned}
 use Rattle.numbers.specs.Round.{roundAway}
 use Rattle.machine.specs.Constants.{timeout, duration, limit, maxSampledTimeout, maxSampledDuration}
-use Rattle.machine.specs.Dist.{distAt, nextValue, uniformDraw, outsideDraw, sampleOfType, distSample, adjustedDraw, sample, gotWhole, wholeOf}
+use Rattle.machine.specs.Dist.{distAt, nextValue, uniformDraw, outsideDraw, sampleOfType, distSample, adjustedDraw, sample, wholeOf}
 use Rattle.machine.specs.Action.{hasTimeout, hasDuration, hasLimit, sampleTimeout, sampleDuration, sampleLimit}
 use Rattle.machine.specs.Counter.{sampleValue}
 use Rattle.machine.specs.State.{fitChance, chanceDraw}

@@ -2,7 +2,7 @@
 -- of a batch keeps it: an event's counts (`inv-count`), transitions under unchanged counts (`inv-acts`) and the batch's end (`inv-end`).
 -- In words: what a machine has sent, holds and is about to get is within its budget; and it is at most 2 and its allowance more than
 -- it had sent when a check last passed by the framework's fraction. Assumes nothing.
-use Prim.Native.Nat.{ℕ, zero, suc, _+_, _*_, _-_, _≤_, _<_, zero-le}
+use Prim.Native.Nat.{ℕ, suc, _+_, _*_, _-_, _≤_, _<_, zero-le}
 use native.Mathlib.Nat.{le-trans, le-of-eq, mul-le-mul-right, mul-le-mul, le-refl, add-mul, zero-mul}
 use native.Mathlib.Decide.{decLe}
 use native.Mathlib.Omega.{arith}

@@ -3,19 +3,19 @@
 -- the second 3 of 7. So P can be A + 2, P - 1 would not be below f × T, and M would not do for 4 × M. Assumes nothing.
 use Prim.Native.Nat.{ℕ, suc, _+_, _*_, _-_, _^_, _≤_, _<_}
 use native.Mathlib.Nat.{lt-irrefl, lt-of-lt-of-le}
-use mathlib.Core.Bool.{Bool, true, false, cond, not}
+use mathlib.Core.Bool.{not}
 use mathlib.Core.List.{List, [], _∷_, _++_}
 use mathlib.Core.Logic.{_⊎_, inl, inr}
 use mathlib.Core.Path.{_≡_, refl, subst}
 use lib.Dec.{T, ltb, eqb, ltb→lt, eqb-refl, T-not}
 use lib.ListN.{replicate}
-use lib.Ieee.{Float, binary32, binary64, ofBits, ofInt, toUnsigned, add, sub, div, lt, le, eq}
+use lib.Ieee.{Float, ofBits, ofInt, add, sub, div, lt, le, eq}
 use Rattle.numbers.specs.Finite.{isFinite}
 use Rattle.numbers.specs.Fraction.{reached, in1074}
 use Rattle.numbers.specs.Round.{roundAway}
 use Rattle.machine.specs.Constants.{action, timeout, sendPadding}
 use Rattle.machine.specs.Event.{eventOf, normalSent, paddingSent, tunnelSent}
-use Rattle.machine.specs.Dist.{zeroF, distType, distAt, validUniform, validate, uniformDraw, outsideDraw, distSample, orZero, capped, adjusted, sample}
+use Rattle.machine.specs.Dist.{zeroF, distType, distAt, validUniform, validate, uniformDraw, distSample, orZero, capped, adjusted, sample}
 use Rattle.machine.specs.Action.{sampleTimeout, sampleDuration, sampleLimit, hasLimit}
 use Rattle.machine.specs.State.{rowsOf, chanceDraw, walk, sampleState}
 use Rattle.tables.specs.First.{orElse, firstRefusal}
@@ -23,8 +23,8 @@ use Rattle.tables.specs.State.{eventsRefusal, pairRefusal, rowRefusal, sumRefus
 use Rattle.tables.specs.Machine.{beyondFraction, eachState, statesRefusal, machineRefusal, wholeTables, tablesRefusal}
 use Rattle.tables.specs.Framework.{isFraction, fractionsRefusal}
 use Rattle.steps.specs.Limits.{belowFraction, belowLimitPadding, belowActionLimits}
-use Rattle.steps.specs.Transition.{enter, raise, scheduleAction, applied, updateOne, updateCounter, finish, transitionBy, zeroTransition, decrementLimit}
-use Rattle.steps.specs.Events.{Tables, Tapes, each, noRuntime, countedBy, blockedFor, accounted, turn, machineTurn, processEvent, signalMachine, signals}
+use Rattle.steps.specs.Transition.{enter, scheduleAction, updateOne, updateCounter, finish, transitionBy, decrementLimit}
+use Rattle.steps.specs.Events.{Tables, each, countedBy, blockedFor, accounted, turn, machineTurn, processEvent, signals}
 use Rattle.steps.specs.Framework.{startLimit, openTurn, opening, statesFit, fitsTables, kindsFit, eventsFit, batchRefusal, triggerEvents, actionRows, batch}
 use Rattle.steps.specs.Example.{stateWith, pairFirst, pairCount, quarter32, one32, quarter64, f32, f64}
 use Rattle.steps.specs.Budget.{Call, refusalOf, frameworkOf, Ledger, empty, ledger, Lists, allowance, sum}

@@ -13,7 +13,7 @@ use lib.ListN.{length, getD, drop, length-append}
 use lib.Seq.{getD-append-add}
 use Rattle.machine.specs.Constants.{sendPadding}
 use Rattle.steps.specs.Transition.{noAction}
-use Rattle.steps.specs.Framework.{actionRow, actionRows, written}
+use Rattle.steps.specs.Framework.{actionRows, written}
 use Rattle.steps.specs.Budget.{returnsPadding}
 use Rattle.steps.specs.Budget.Machine.{isPadding}
 use Rattle.steps.specs.declared.TriggerAction.{TriggerAction}
