@@ -1,18 +1,20 @@
 -- What an event counts at a machine that takes its turn at it, and at one that takes none; and which machines take one. Assumes
 -- nothing.
 use Prim.Native.Nat.{ℕ, suc, _+_, _^_, _≤_, _<_}
+use native.Mathlib.Decide.{ℕ-discrete}
 use native.Mathlib.Omega.{arith}
 use mathlib.Core.Bool.{Bool, true, false, cond, true≢false, false≢true}
 use mathlib.Core.Logic.{_⊎_, inl, inr}
-use mathlib.Core.Path.{_≡_, refl, sym, ap, _∙_}
+use mathlib.Core.Path.{_≡_, refl, sym, ap, _∙_, subst}
 use lib.Dec.{ltb, eqb}
-use borrow.Author.Tests.{ltb-true, ltb-false, eqb-true}
+use borrow.Author.Tests.{ltb-true, ltb-false, ne-eqb}
 use Rattle.numbers.specs.Saturating.{saturatingAdd}
 use Rattle.machine.specs.Event.{normalSent, paddingSent, blockingEnd}
 use Rattle.steps.specs.Events.{go, withCounts, countedBy, ownOnly, firstFor, turnsFor}
 use Rattle.steps.specs.Budget.{Ledger, plus, count, packets}
 use Rattle.steps.specs.Budget.Sums.{plus-same, plus-other}
 use Rattle.steps.specs.Budget.Invariant.{normalCounted, paddingCounted}
+use Rattle.steps.specs.Budget.Draws.{either}
 use Rattle.steps.specs.Budget.Machine.{Has}
 use Rattle.steps.specs.declared.MachineRuntime.{MachineRuntime}
 
@@ -20,47 +22,43 @@ use Rattle.steps.specs.declared.MachineRuntime.{MachineRuntime}
 pub one-more : (a b : ℕ) → a ≤ b → suc b ≤ 2 ^ 53 → saturatingAdd a 1 ≡ suc a
 one-more a b h k = omega arith
 
+-- the kinds that the ledger tells apart
+pub kind-cases : (P : ℕ → Type 0) → P normalSent → P paddingSent
+    → ((kind : ℕ) → (kind ≡ normalSent → ⊥) → (kind ≡ paddingSent → ⊥) → P kind) → (kind : ℕ) → P kind
+kind-cases P n p o kind = elim (ℕ-discrete kind normalSent) [
+  | yes e ↦ subst P (sym e) n
+  | no e ↦ elim (ℕ-discrete kind paddingSent) [ yes f ↦ subst P (sym f) p | no f ↦ o kind e f ]
+]
+
 -- of a machine that takes its turn at it
-pub counted-has : (l : Ledger) (kind machine blocked i : ℕ) (r : MachineRuntime) → l .own i ≤ l .padding → packets (count l kind machine) ≤ 2 ^ 53
-    → (kind ≡ paddingSent → i ≡ machine) → Has (l .own i) (l .normal) r
+pub counted-has : (l : Ledger) (machine blocked i : ℕ) (r : MachineRuntime) → l .own i ≤ l .padding → Has (l .own i) (l .normal) r
+    → (kind : ℕ) → packets (count l kind machine) ≤ 2 ^ 53 → (kind ≡ paddingSent → i ≡ machine)
     → Has (count l kind machine .own i) (count l kind machine .normal) (countedBy kind blocked r)
 unfolding countedBy
-counted-has l kind machine blocked i r owned small mine h =
-    go (eqb kind normalSent) (eqb kind paddingSent) (eqb kind blockingEnd) (λ e. mine (eqb-true kind paddingSent e)) small
-  where
-    normal : l .padding + suc (l .normal) ≤ 2 ^ 53 → saturatingAdd (l .normal) 1 ≡ suc (l .normal)
-    normal k = one-more (l .normal) (l .padding + l .normal) (omega arith) (omega arith)
-
-    own : suc (l .padding) + l .normal ≤ 2 ^ 53 → saturatingAdd (l .own i) 1 ≡ suc (l .own i)
-    own k = one-more (l .own i) (l .padding) owned (omega arith)
-
-    go : (a b c : Bool) → (b ≡ true → i ≡ machine)
-        → packets (cond a (normalCounted l) (cond b (paddingCounted l machine) l)) ≤ 2 ^ 53
-        → Has (cond a (normalCounted l) (cond b (paddingCounted l machine) l) .own i)
-        (cond a (normalCounted l) (cond b (paddingCounted l machine) l) .normal)
-        (cond a (withCounts r (r .«padding_sent») (saturatingAdd (r .«normal_sent») 1) (r .«blocking_duration»))
-        (cond b (withCounts r (saturatingAdd (r .«padding_sent») 1) (r .«normal_sent») (r .«blocking_duration»))
-        (cond c (withCounts r (r .«padding_sent») (r .«normal_sent») (saturatingAdd (r .«blocking_duration») blocked)) r)))
-    go true b c m k = (h .0, ap (λ (z : ℕ). saturatingAdd z 1) (h .1) ∙ normal k)
-    go false true c m k = (
-      ap (λ (z : ℕ). saturatingAdd z 1) (h .0) ∙ own k ∙ sym (plus-same (l .own) i) ∙ ap (λ (z : ℕ). plus (l .own) z i) (m refl),
+counted-has l machine blocked i r owned h =
+    kind-cases (λ kind. packets (count l kind machine) ≤ 2 ^ 53 → (kind ≡ paddingSent → i ≡ machine)
+    → Has (count l kind machine .own i) (count l kind machine .normal) (countedBy kind blocked r))
+    (λ k mine. (h .0, ap up (h .1) ∙ one-more (l .normal) (l .padding + l .normal) (omega arith) (omega arith)))
+    (λ k mine. (
+      ap up (h .0) ∙ one-more (l .own i) (l .padding) owned (omega arith) ∙ sym (plus-same (l .own) i)
+          ∙ ap (λ (z : ℕ). plus (l .own) z i) (mine refl),
       h .1,
-    )
-    go false false true m k = h
-    go false false false m k = h
+    ))
+    (λ kind a b k mine. rw (ne-eqb kind normalSent a, ne-eqb kind paddingSent b) (either (Has (l .own i) (l .normal)) (eqb kind blockingEnd) _ _ h h))
+  where
+    up : ℕ → ℕ
+    up z = saturatingAdd z 1
 
 -- of a machine that takes none
-pub uncounted : (l : Ledger) (kind machine i : ℕ) → (kind ≡ normalSent → ⊥) → (kind ≡ paddingSent → i ≡ machine → ⊥)
-    → (r : MachineRuntime) → Has (l .own i) (l .normal) r → Has (count l kind machine .own i) (count l kind machine .normal) r
-uncounted l kind machine i never other r h =
-    go (eqb kind normalSent) (eqb kind paddingSent) (λ e. never (eqb-true kind normalSent e)) (λ e. other (eqb-true kind paddingSent e))
-  where
-    go : (a b : Bool) → (a ≡ true → ⊥) → (b ≡ true → i ≡ machine → ⊥)
-        → Has (cond a (normalCounted l) (cond b (paddingCounted l machine) l) .own i)
-        (cond a (normalCounted l) (cond b (paddingCounted l machine) l) .normal) r
-    go true b m k = absurd (m refl)
-    go false true m k = (h .0 ∙ sym (plus-other (l .own) machine i (λ e. k refl (sym e))), h .1)
-    go false false m k = h
+pub uncounted : (l : Ledger) (machine i : ℕ) (r : MachineRuntime) → Has (l .own i) (l .normal) r
+    → (kind : ℕ) → (kind ≡ normalSent → ⊥) → (kind ≡ paddingSent → i ≡ machine → ⊥)
+    → Has (count l kind machine .own i) (count l kind machine .normal) r
+uncounted l machine i r h =
+    kind-cases (λ kind. (kind ≡ normalSent → ⊥) → (kind ≡ paddingSent → i ≡ machine → ⊥)
+    → Has (count l kind machine .own i) (count l kind machine .normal) r)
+    (λ a b. absurd (a refl))
+    (λ a b. (h .0 ∙ sym (plus-other (l .own) machine i (λ e. b refl (sym e))), h .1))
+    (λ kind a b c d. rw (ne-eqb kind normalSent a, ne-eqb kind paddingSent b) h)
 
 -- ---- which machines take a turn
 pub turn-range : (kind machine num i : ℕ) → firstFor kind machine ≤ i → i < firstFor kind machine + turnsFor kind machine num

@@ -78,15 +78,10 @@ update-ok row k values at old other zeroed =
 -- ---- a SendPadding that is below its limits passed below_limit_padding
 judged : (c : Context) (r : MachineRuntime) (row : List ℕ) → belowActionLimits c r row ≡ true → T (eqb (actionOf row) sendPadding)
     → belowLimitPadding c r ≡ true
-unfolding belowActionLimits
-judged c r row h t = sym (ap by (eqb→eq (actionOf row) sendPadding t)) ∙ h
+judged c r row h t = sym (padding-limit (eqb→eq (actionOf row) sendPadding t)) ∙ h
   where
-    by : ℕ → Bool
-    by code =
-        cond (eqb code 0) false
-        (cond (eqb code blockOutgoing) (belowLimitBlocking c r (replaceOf row))
-        (cond (eqb code sendPadding) (belowLimitPadding c r)
-        (cond (eqb code updateTimer) (limitLeft r) true)))
+    padding-limit : actionOf row ≡ sendPadding → belowActionLimits c r row ≡ belowLimitPadding c r
+    padding-limit e = unfold belowActionLimits in rw e
 
 -- ---- the counts of a machine, what its pending action may be, and what holds after a step
 abbrev pub Has : ℕ → ℕ → MachineRuntime → Type 0

@@ -16,7 +16,7 @@ use Rattle.steps.specs.Transition.{noAction}
 use Rattle.steps.specs.Events.{Run, Outcome, stop, go, andThen, each, numMachines, noRuntime, runtimeAt, withRuntime, contextOf, stored}
 use Rattle.steps.specs.Budget.{Ledger, packets, allowance, fraction}
 use Rattle.steps.specs.Budget.Invariant.{Acts, Inv, inv-acts}
-use Rattle.steps.specs.Budget.Check.{Passed, Setup, machinesOf, checks}
+use Rattle.steps.specs.Budget.Check.{Numbers, Passed, numbersAt, Setup, machinesOf, checks}
 use Rattle.steps.specs.Budget.Machine.{isPadding, Has, Kept}
 use Rattle.steps.specs.declared.MachineRuntime.{MachineRuntime}
 use Rattle.steps.specs.declared.Framework.{Framework}
@@ -84,20 +84,22 @@ module _ (S : Setup) where
 
   -- why a SendPadding is pending
   abbrev pub Why : Ledger → (ℕ → Bool) → ℕ → Type 0
-  Why l a i = T (a i) ⊎ Passed (allowance tables i) (fraction tables i) F (l .own i) (l .normal) (l .padding)
+  Why l a i = T (a i) ⊎ Passed (numbersAt S i (l .own i) (l .normal) (l .padding))
 
   pub by-check : (l : Ledger) (a : ℕ → Bool) (fw : Framework) → Frame l fw → (i : ℕ) (r : MachineRuntime)
       → r .«padding_sent» ≡ l .own i → r .«normal_sent» ≡ l .normal → belowLimitPadding (contextOf tables fw i) r ≡ true → Why l a i
   by-check l a fw f i r p n b = inr (record {
     context = contextOf tables fw i;
     runtime = r;
-    allowance-is = refl;
-    fraction-is = refl;
-    all-is = f .frac;
-    padding-is = f .padding;
-    normal-is = f .normal;
-    own-is = p;
-    heard-is = n;
+    reads = λ z. record {
+      allowed = allowance tables i;
+      f = fraction tables i;
+      F = f .frac z;
+      own = p z;
+      heard = n z;
+      padding = f .padding z;
+      normal = f .normal z;
+    };
     passed = b;
   })
 

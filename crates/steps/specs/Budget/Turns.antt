@@ -8,7 +8,7 @@ use mathlib.Core.Logic.{inl}
 use mathlib.Core.Path.{_≡_, refl, sym, ap, _∙_, subst}
 use lib.Dec.{T, ltb, leb, eqb}
 use lib.ListN.{getD}
-use borrow.Author.Tests.{leb-true, ltb-true}
+use borrow.Author.Tests.{leb-true, ltb-true, ne-eqb}
 use Rattle.numbers.specs.Saturating.{saturatingAdd}
 use Rattle.machine.specs.Event.{normalSent, paddingSent, blockingBegin, blockingEnd, signal}
 use Rattle.steps.specs.Transition.{Env, noAction, transition}
@@ -19,7 +19,7 @@ use Rattle.steps.specs.Budget.Draws.{either}
 use Rattle.steps.specs.Budget.Machine.{Has, transition-kept, turn-kept}
 use Rattle.steps.specs.declared.MachineRuntime.{MachineRuntime}
 use Rattle.steps.specs.declared.Framework.{Framework}
-use Rattle.steps.specs.Budget.Counts.{one-more, counted-has, uncounted, turn-range, no-turn}
+use Rattle.steps.specs.Budget.Counts.{one-more, kind-cases, counted-has, uncounted, turn-range, no-turn}
 use Rattle.steps.specs.Budget.Check.{Setup, machinesOf, checks}
 use Rattle.steps.specs.Budget.Runs.{Ok, ok-then, ok-map, each-ok, Frame, At, sends, Mid, Why, by-check, store, num-is, Live, mid-live}
 
@@ -27,41 +27,36 @@ module _ (S : Setup) where
   open Setup S using (tables)
 
   -- ---- an event
-  accounted-frame : (l : Ledger) (kind machine : ℕ) (fw : Framework) → packets (count l kind machine) ≤ 2 ^ 53 → Frame S l fw
+  accounted-frame : (l : Ledger) (machine : ℕ) (fw : Framework) → Frame S l fw → (kind : ℕ) → packets (count l kind machine) ≤ 2 ^ 53
       → Frame S (count l kind machine) (accounted kind fw)
   unfolding accounted
-  accounted-frame l kind machine fw small f =
-      go (eqb kind normalSent) (eqb kind paddingSent) (eqb kind blockingBegin) (eqb kind blockingEnd) (isBlocking fw) small
-    where
-      -- blocking is no part of it
-      same : (d s o : ℕ) → Frame S l (withBlocking fw d s o)
-      same d s o = record { machines = f .machines; frac = f .frac; normal = f .normal; padding = f .padding; room = f .room }
-
-      go : (a b c d e : Bool) → packets (cond a (normalCounted l) (cond b (paddingCounted l machine) l)) ≤ 2 ^ 53
-          → Frame S (cond a (normalCounted l) (cond b (paddingCounted l machine) l))
-          (cond a (withPackets fw (saturatingAdd (fw .«normal_sent_packets») 1) (fw .«padding_sent_packets»))
-          (cond b (withPackets fw (fw .«normal_sent_packets») (saturatingAdd (fw .«padding_sent_packets») 1))
-          (cond c (cond e fw (withBlocking fw (fw .«blocking_duration») (fw .«current_time») 1))
-          (cond d (cond e (withBlocking fw (saturatingAdd (fw .«blocking_duration») (blockedFor fw)) (fw .«blocking_started») 0) fw) fw))))
-      go true b c d e k = record {
+  accounted-frame l machine fw f =
+      kind-cases (λ kind. packets (count l kind machine) ≤ 2 ^ 53 → Frame S (count l kind machine) (accounted kind fw))
+      (λ k. record {
         machines = f .machines;
         frac = f .frac;
-        normal = ap (λ (z : ℕ). saturatingAdd z 1) (f .normal) ∙ one-more (l .normal) (l .padding + l .normal) (omega arith) (omega arith);
+        normal = ap up (f .normal) ∙ one-more (l .normal) (l .padding + l .normal) (omega arith) (omega arith);
         padding = f .padding;
         room = f .room;
-      }
-      go false true c d e k = record {
+      })
+      (λ k. record {
         machines = f .machines;
         frac = f .frac;
         normal = f .normal;
-        padding = ap (λ (z : ℕ). saturatingAdd z 1) (f .padding) ∙ one-more (l .padding) (l .padding + l .normal) (omega arith) (omega arith);
+        padding = ap up (f .padding) ∙ one-more (l .padding) (l .padding + l .normal) (omega arith) (omega arith);
         room = f .room;
-      }
-      go false false true d true k = f
-      go false false true d false k = same (fw .«blocking_duration») (fw .«current_time») 1
-      go false false false true true k = same (saturatingAdd (fw .«blocking_duration») (blockedFor fw)) (fw .«blocking_started») 0
-      go false false false true false k = f
-      go false false false false e k = f
+      })
+      (λ kind a b k.
+      rw (ne-eqb kind normalSent a, ne-eqb kind paddingSent b)
+      (either (Frame S l) (eqb kind blockingBegin) _ _ (either (Frame S l) (isBlocking fw) _ _ f same)
+      (either (Frame S l) (eqb kind blockingEnd) _ _ (either (Frame S l) (isBlocking fw) _ _ same f) f)))
+    where
+      up : ℕ → ℕ
+      up z = saturatingAdd z 1
+
+      -- blocking is no part of it
+      same : {d s o : ℕ} → Frame S l (withBlocking fw d s o)
+      same = record { machines = f .machines; frac = f .frac; normal = f .normal; padding = f .padding; room = f .room }
 
   accounted-runtime : (kind : ℕ) (fw : Framework) → accounted kind fw .runtime ≡ fw .runtime
   unfolding accounted
@@ -108,12 +103,12 @@ module _ (S : Setup) where
 
       start : Mid S l l' (sends S x) (firstFor kind machine) n (account kind x)
       start = record {
-        frame = accounted-frame l kind machine (x .framework) small (s .frame);
+        frame = accounted-frame l machine (x .framework) (s .frame) kind small;
         room = s .room;
         waits = λ i p q. moved l i (s .at i (range i p q .0));
         had = λ i p q.
             let t = no-turn kind machine (numMachines (x .framework)) i (subst (λ (z : ℕ). i < z) (sym num) p) q in
-            moved l' i (uncounted l kind machine i (t .0) (t .1) (runtimeAt (x .framework) i) (s .at i p));
+            moved l' i (uncounted l machine i (runtimeAt (x .framework) i) (s .at i p) kind (t .0) (t .1));
         acts = λ i t. (v .actor i t, inl t);
       }
 
@@ -127,8 +122,8 @@ module _ (S : Setup) where
           (turn E kind (limitFalls kind machine k) (blockedFor (x .framework)) (runtimeAt (y .framework) k) (y .shared) (getD (y .actions) k noAction))
           (turn-kept E (l' .own k) (l' .normal) (Why S l' (sends S x) k) (by-check S l' (sends S x) (y .framework) (m .frame) k)
           kind (limitFalls kind machine k) (blockedFor (x .framework)) (runtimeAt (y .framework) k) (y .shared) (getD (y .actions) k noAction)
-          (counted-has l kind machine (blockedFor (x .framework)) k (runtimeAt (y .framework) k) (inv-owned (checks S) l (sends S x) v k (mine .0)) small (mine .1)
-          (m .waits k (le-refl k) (omega arith)))
+          (counted-has l machine (blockedFor (x .framework)) k (runtimeAt (y .framework) k)
+          (inv-owned (checks S) l (sends S x) v k (mine .0)) (m .waits k (le-refl k) (omega arith)) kind small (mine .1))
           (λ t. m .acts k t .1)))
           (λ z w. ((λ i p q. r i (omega arith) (omega arith)), w))
 
