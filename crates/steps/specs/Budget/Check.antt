@@ -7,7 +7,7 @@ use native.Mathlib.Omega.{arith}
 use mathlib.Core.Bool.{Bool, true, false, cond, false≢true}
 use mathlib.Core.Logic.{_⊎_, inl, inr}
 use mathlib.Core.Path.{_≡_, refl, sym, ap, _∙_, subst}
-use lib.Dec.{T, ltb, eqb}
+use lib.Dec.{T}
 use lib.Ieee.{Float, binary64, ofBits, lt, fits}
 use lib.Ieee.Bits.{ofBits-fits}
 use lib.Ieee.Positive.{positive}
@@ -34,7 +34,7 @@ module _ (f : Float) (p n : ℕ) (small : p + n ≤ 2 ^ 53) (some : p + n ≡ 0 
   -- reaching the fraction stops
   reaching-stops : (rest : Bool) → lt zeroF f ≡ true → reached p (p + n) f ≡ true → belowFraction f p n rest ≡ false
   unfolding belowFraction
-  reaching-stops rest on e = rw (on, uncapped p n small, ne-eqb (p + n) 0 some, e)
+  reaching-stops rest on e = rw (on, uncapped p n small, ne-eqb (p + n) 0 some) (ap (λ (b : Bool). cond b false rest) e)
 
   -- and so does what follows it
   rest-stops : (rest : Bool) → rest ≡ false → belowFraction f p n rest ≡ false

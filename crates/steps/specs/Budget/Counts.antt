@@ -1,19 +1,18 @@
 -- What an event counts at a machine that takes its turn at it, and at one that takes none; and which machines take one. Assumes
 -- nothing.
 use Prim.Native.Nat.{ℕ, suc, _+_, _^_, _≤_, _<_}
-use native.Mathlib.Decide.{ℕ-discrete}
 use native.Mathlib.Omega.{arith}
 use mathlib.Core.Bool.{Bool, true, false, cond, true≢false, false≢true}
 use mathlib.Core.Logic.{_⊎_, inl, inr}
-use mathlib.Core.Path.{_≡_, refl, sym, ap, _∙_, subst}
+use mathlib.Core.Path.{_≡_, refl, sym, ap, _∙_}
 use lib.Dec.{ltb, eqb}
 use borrow.Author.Tests.{ltb-true, ltb-false, ne-eqb}
 use Rattle.numbers.specs.Saturating.{saturatingAdd}
 use Rattle.machine.specs.Event.{normalSent, paddingSent, blockingEnd}
-use Rattle.steps.specs.Events.{go, withCounts, countedBy, ownOnly, firstFor, turnsFor}
+use Rattle.steps.specs.Events.{go, countedBy, ownOnly, firstFor, turnsFor}
 use Rattle.steps.specs.Budget.{Ledger, plus, count, packets}
 use Rattle.steps.specs.Budget.Sums.{plus-same, plus-other}
-use Rattle.steps.specs.Budget.Invariant.{normalCounted, paddingCounted}
+use Rattle.steps.specs.Budget.Invariant.{kind-cases, count-other}
 use Rattle.steps.specs.Budget.Draws.{either}
 use Rattle.steps.specs.Budget.Machine.{Has}
 use Rattle.steps.specs.declared.MachineRuntime.{MachineRuntime}
@@ -21,14 +20,6 @@ use Rattle.steps.specs.declared.MachineRuntime.{MachineRuntime}
 -- ---- an event's counts, which no number of packets up to 2 ^ 53 saturates
 pub one-more : (a b : ℕ) → a ≤ b → suc b ≤ 2 ^ 53 → saturatingAdd a 1 ≡ suc a
 one-more a b h k = omega arith
-
--- the kinds that the ledger tells apart
-pub kind-cases : (P : ℕ → Type 0) → P normalSent → P paddingSent
-    → ((kind : ℕ) → (kind ≡ normalSent → ⊥) → (kind ≡ paddingSent → ⊥) → P kind) → (kind : ℕ) → P kind
-kind-cases P n p o kind = elim (ℕ-discrete kind normalSent) [
-  | yes e ↦ subst P (sym e) n
-  | no e ↦ elim (ℕ-discrete kind paddingSent) [ yes f ↦ subst P (sym f) p | no f ↦ o kind e f ]
-]
 
 -- of a machine that takes its turn at it
 pub counted-has : (l : Ledger) (machine blocked i : ℕ) (r : MachineRuntime) → l .own i ≤ l .padding → Has (l .own i) (l .normal) r
@@ -58,7 +49,7 @@ uncounted l machine i r h =
     → Has (count l kind machine .own i) (count l kind machine .normal) r)
     (λ a b. absurd (a refl))
     (λ a b. (h .0 ∙ sym (plus-other (l .own) machine i (λ e. b refl (sym e))), h .1))
-    (λ kind a b c d. rw (ne-eqb kind normalSent a, ne-eqb kind paddingSent b) h)
+    (λ kind a b c d. count-other (λ m. Has (m .own i) (m .normal) r) l machine kind a b h)
 
 -- ---- which machines take a turn
 pub turn-range : (kind machine num i : ℕ) → firstFor kind machine ≤ i → i < firstFor kind machine + turnsFor kind machine num

@@ -4,42 +4,36 @@
 -- it had sent when a check last passed by the framework's fraction. Assumes nothing.
 use Prim.Native.Nat.{ℕ, suc, _+_, _*_, _-_, _≤_, _<_, zero-le}
 use native.Mathlib.Nat.{le-trans, le-of-eq, mul-le-mul-right, mul-le-mul, le-refl, add-mul, zero-mul}
-use native.Mathlib.Decide.{decLe}
+use native.Mathlib.Decide.{decLe, ℕ-discrete}
 use native.Mathlib.Omega.{arith}
 use mathlib.Core.Bool.{Bool, true, false, _||_, cond}
 use mathlib.Core.List.{List, [], _∷_}
 use mathlib.Core.Logic.{_⊎_, inl, inr}
 use mathlib.Core.Path.{_≡_, refl, sym, ap, _∙_, subst}
 use lib.Dec.{T, eqb, eqb→eq}
-use borrow.Author.Tests.{eqb-true}
+use borrow.Author.Tests.{ne-eqb}
 use Rattle.machine.specs.Event.{normalSent, paddingSent}
 use Rattle.steps.specs.Budget.{Ledger, empty, plus, without, count, counted, returned, packets, sum}
 use Rattle.steps.specs.Budget.Sums.{sum-mono, sum-shift, sum-none, one-of-sum, plus-grows, sum-plus, Below, below-more, below-less, below-pass, below-budget}
 
--- ---- the three kinds of event that the ledger tells apart
-abbrev pub normalCounted : Ledger → Ledger
-normalCounted l = record { normal = suc (l .normal); padding = l .padding; own = l .own; held = l .held }
+-- ---- the kinds of event that the ledger tells apart
+pub kind-cases : (P : ℕ → Type 0) → P normalSent → P paddingSent
+    → ((kind : ℕ) → (kind ≡ normalSent → ⊥) → (kind ≡ paddingSent → ⊥) → P kind) → (kind : ℕ) → P kind
+kind-cases P n p o kind = elim (ℕ-discrete kind normalSent) [
+  | yes e ↦ subst P (sym e) n
+  | no e ↦ elim (ℕ-discrete kind paddingSent) [ yes f ↦ subst P (sym f) p | no f ↦ o kind e f ]
+]
 
-abbrev pub paddingCounted : Ledger → ℕ → Ledger
-paddingCounted l machine = record {
-  normal = l .normal;
-  padding = suc (l .padding);
-  own = plus (l .own) machine;
-  held = without (l .held) machine;
-}
-
-pub by-kind : (P : Ledger → Type 0) (l : Ledger) (kind machine : ℕ)
-    → P (normalCounted l) → (kind ≡ paddingSent → P (paddingCounted l machine)) → P l → P (count l kind machine)
-by-kind P l kind machine n p o = go (eqb kind normalSent) (eqb kind paddingSent) (eqb-true kind paddingSent)
-  where
-    go : (a b : Bool) → (b ≡ true → kind ≡ paddingSent) → P (cond a (normalCounted l) (cond b (paddingCounted l machine) l))
-    go true b e = n
-    go false true e = p (e refl)
-    go false false e = o
+-- every other kind counts nothing
+pub count-other : (P : Ledger → Type 0) (l : Ledger) (machine kind : ℕ) → (kind ≡ normalSent → ⊥) → (kind ≡ paddingSent → ⊥)
+    → P l → P (count l kind machine)
+count-other P l machine kind a b h = rw (ne-eqb kind normalSent a, ne-eqb kind paddingSent b) h
 
 -- ---- the packets only grow
 pub count-grows : (l : Ledger) (kind machine : ℕ) → packets l ≤ packets (count l kind machine)
-count-grows l kind machine = by-kind (λ m. packets l ≤ packets m) l kind machine (omega arith) (λ e. omega arith) (omega arith)
+count-grows l kind machine =
+    kind-cases (λ k. packets l ≤ packets (count l k machine)) (omega arith) (omega arith)
+    (λ k a b. count-other (λ m. packets l ≤ packets m) l machine k a b (le-refl (packets l))) kind
 
 pub counted-grows : (l : Ledger) (es : List ℕ) → packets l ≤ packets (counted l es)
 counted-grows l [] = le-refl (packets l)
@@ -142,8 +136,8 @@ module _ (L : Checks) where
   }
 
   -- ---- an event's counts
-  inv-normal : (l : Ledger) (a : ℕ → Bool) → Inv l a → Inv (normalCounted l) a
-  inv-normal l a v = record {
+  inv-normal : (l : Ledger) (a : ℕ → Bool) (machine : ℕ) → Inv l a → Inv (count l normalSent machine) a
+  inv-normal l a machine v = record {
     holder = v .holder;
     actor = v .actor;
     total = v .total;
@@ -152,33 +146,34 @@ module _ (L : Checks) where
     frame = λ p. let f = v .frame p in (f .0, le-trans (f .1) (mul-le-mul (le-refl G) (grows l)), f .2);
   }
     where
-      grows : (l : Ledger) → packets l ≤ packets (normalCounted l)
+      grows : (l : Ledger) → packets l ≤ packets (count l normalSent machine)
       grows l = omega arith
 
-  inv-padding : (l : Ledger) (a : ℕ → Bool) (k : ℕ) → Inv l a → T (l .held k) → Inv (paddingCounted l k) a
+  inv-padding : (l : Ledger) (a : ℕ → Bool) (k : ℕ) → Inv l a → T (l .held k) → Inv (count l paddingSent k) a
   inv-padding l a k v h = record {
     holder = λ i t. v .holder i (held-before (l .held) k i t);
     actor = v .actor;
     total = ap suc (v .total) ∙ sym (sum-plus M (l .own) k (v .holder k h));
     machine = λ i m p.
         let more = plus-grows (l .own) k i in
-        below-less (A i) U (g i) (plus (l .own) k i + l .normal) (due (paddingCounted l k) a i) (due l a i) (le-of-eq (same i))
+        below-less (A i) U (g i) (plus (l .own) k i + l .normal) (due (count l paddingSent k) a i) (due l a i) (le-of-eq (same i))
         (below-more (A i) U (g i) (l .own i + l .normal) (plus (l .own) k i + l .normal) (due l a i) (omega arith) (v .machine i m p));
     frame = λ p.
         let f = v .frame p in
         (f .0, le-trans (f .1) (mul-le-mul (le-refl G) (grows l)), λ i m. le-trans (le-of-eq (same i)) (f .2 i m));
   }
     where
-      same : (i : ℕ) → due (paddingCounted l k) a i ≡ due l a i
+      same : (i : ℕ) → due (count l paddingSent k) a i ≡ due l a i
       same i = due-spent (l .own) (l .held) k i (bit (a i)) h
 
-      grows : (l : Ledger) → packets l ≤ packets (paddingCounted l k)
+      grows : (l : Ledger) → packets l ≤ packets (count l paddingSent k)
       grows l = omega arith
 
   pub inv-count : (l : Ledger) (a : ℕ → Bool) (kind machine : ℕ) → Inv l a → (kind ≡ paddingSent → T (l .held machine))
       → Inv (count l kind machine) a
   inv-count l a kind machine v h =
-      by-kind (λ m. Inv m a) l kind machine (inv-normal l a v) (λ e. inv-padding l a machine v (h e)) v
+      kind-cases (λ k. (k ≡ paddingSent → T (l .held machine)) → Inv (count l k machine) a) (λ e. inv-normal l a machine v)
+      (λ e. inv-padding l a machine v (e refl)) (λ k p q e. count-other (λ m. Inv m a) l machine k p q v) kind h
 
   -- ---- transitions
   pub inv-acts : (l : Ledger) (a b : ℕ → Bool) → packets l ≤ cap → Inv l a → Acts l a b → Inv l b

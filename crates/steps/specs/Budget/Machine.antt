@@ -4,11 +4,11 @@
 use Prim.Native.Nat.{ℕ, zero, suc, _+_, _-_, _<_}
 use mathlib.Core.Bool.{Bool, true, false, cond, not, _&&_, _||_}
 use mathlib.Core.List.{List}
-use mathlib.Core.Path.{_≡_, refl, sym, ap, _∙_, subst}
+use mathlib.Core.Path.{_≡_, refl, sym, _∙_, subst}
 use lib.Dec.{T, eqb, eqb→eq}
 use lib.ListN.{getD}
 use lib.Ieee.{Float}
-use Rattle.machine.specs.Constants.{sendPadding, blockOutgoing, updateTimer, stateEnd, stateSignal, counterA, counterB}
+use Rattle.machine.specs.Constants.{sendPadding, stateEnd, stateSignal, counterA, counterB}
 use Rattle.machine.specs.Event.{eventOf, limitReached, counterZero}
 use Rattle.machine.specs.Action.{actionOf, sampleTimeout, sampleDuration, sampleLimit, hasLimit}
 use Rattle.machine.specs.State.{stateRow, firstOf, countOf, chanceDraw, sampleState}
@@ -18,7 +18,7 @@ use Rattle.machine.specs.declared.state.ChanceDrawn.{ChanceDrawn}
 use Rattle.machine.specs.declared.state.ChanceDrawn.the-variants.{NoChance, GotChance}
 use Rattle.machine.specs.declared.state.Next.{Next}
 use Rattle.machine.specs.declared.state.Next.the-variants.{State, Nothing}
-use Rattle.steps.specs.Limits.{replaceOf, limitLeft, belowLimitPadding, belowLimitBlocking, belowActionLimits}
+use Rattle.steps.specs.Limits.{belowLimitPadding, belowActionLimits}
 use Rattle.steps.specs.Transition.{Env, noAction, withState, withCounters, withChanceAt, withValueAt, withZeroed, enteredWith, enter, withDuration, withTimeout, scheduleAction, changedBy, changeOf, updateOne, hasChanged, scheduledStep, finish, finished, afterZero, onB, onA, updateCounter, entering, going, drawn, transitionBy, zeroTransition, transition, decrementLimit}
 use Rattle.steps.specs.Events.{countedBy, afterTransition, turn}
 use Rattle.steps.specs.Budget.Draws.{either, WholeOk, timeout-ok, duration-ok, limit-ok, value-ok, ChanceOk, chance-ok}

@@ -6,7 +6,7 @@ use native.Mathlib.Decide.{ℕ-discrete, decLt}
 use native.Mathlib.Omega.{arith}
 use mathlib.Core.Bool.{Bool, true}
 use mathlib.Core.Logic.{_⊎_, inl, inr}
-use mathlib.Core.Path.{_≡_, refl, sym, _∙_, subst}
+use mathlib.Core.Path.{_≡_, sym, _∙_, subst}
 use lib.Dec.{T}
 use lib.ListN.{length, getD, set, length-set}
 use lib.Seq.{getD-set-same, getD-set-other}
@@ -16,7 +16,7 @@ use Rattle.steps.specs.Transition.{noAction}
 use Rattle.steps.specs.Events.{Run, Outcome, stop, go, andThen, each, numMachines, noRuntime, runtimeAt, withRuntime, contextOf, stored}
 use Rattle.steps.specs.Budget.{Ledger, packets, allowance, fraction}
 use Rattle.steps.specs.Budget.Invariant.{Acts, Inv, inv-acts}
-use Rattle.steps.specs.Budget.Check.{Numbers, Passed, numbersAt, Setup, machinesOf, checks}
+use Rattle.steps.specs.Budget.Check.{Passed, numbersAt, Setup, machinesOf, checks}
 use Rattle.steps.specs.Budget.Machine.{isPadding, Has, Kept}
 use Rattle.steps.specs.declared.MachineRuntime.{MachineRuntime}
 use Rattle.steps.specs.declared.Framework.{Framework}

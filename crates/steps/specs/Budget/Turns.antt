@@ -12,14 +12,14 @@ use borrow.Author.Tests.{leb-true, ltb-true, ne-eqb}
 use Rattle.numbers.specs.Saturating.{saturatingAdd}
 use Rattle.machine.specs.Event.{normalSent, paddingSent, blockingBegin, blockingEnd, signal}
 use Rattle.steps.specs.Transition.{Env, noAction, transition}
-use Rattle.steps.specs.Events.{Tapes, Run, Outcome, go, each, numMachines, noRuntime, runtimeAt, envOf, withPackets, withBlocking, isBlocking, blockedFor, accounted, limitFalls, turn, machineTurn, account, firstFor, turnsFor, processEvent, pendingOf, unsignalled, signalMachine, signalTurn, lastSignal, signals}
+use Rattle.steps.specs.Events.{Tapes, Run, Outcome, go, each, numMachines, noRuntime, runtimeAt, envOf, withBlocking, isBlocking, blockedFor, accounted, limitFalls, turn, machineTurn, account, firstFor, turnsFor, processEvent, pendingOf, unsignalled, signalMachine, signalTurn, lastSignal, signals}
 use Rattle.steps.specs.Budget.{Ledger, count, packets}
-use Rattle.steps.specs.Budget.Invariant.{normalCounted, paddingCounted, inv-owned, inv-count}
+use Rattle.steps.specs.Budget.Invariant.{kind-cases, inv-owned, inv-count}
 use Rattle.steps.specs.Budget.Draws.{either}
 use Rattle.steps.specs.Budget.Machine.{Has, transition-kept, turn-kept}
 use Rattle.steps.specs.declared.MachineRuntime.{MachineRuntime}
 use Rattle.steps.specs.declared.Framework.{Framework}
-use Rattle.steps.specs.Budget.Counts.{one-more, kind-cases, counted-has, uncounted, turn-range, no-turn}
+use Rattle.steps.specs.Budget.Counts.{one-more, counted-has, uncounted, turn-range, no-turn}
 use Rattle.steps.specs.Budget.Check.{Setup, machinesOf, checks}
 use Rattle.steps.specs.Budget.Runs.{Ok, ok-then, ok-map, each-ok, Frame, At, sends, Mid, Why, by-check, store, num-is, Live, mid-live}
 
