@@ -156,6 +156,15 @@ OfMachine x y p n = (p ≤ x) ⊎ ((p - y) * 2 ^ 1074 < in1074 (f64 quarter64) *
 abbrev OfFramework : (z p n : ℕ) → Type 0
 OfFramework z p n = p * 2 ^ 1074 ≤ in1074 (f64 quarter64) * (p + n) + z * 2 ^ 1074
 
+-- with A + 1 for A + 2 and P - 1 for P - 2: at 2 of 2 under allowance 0
+pub not-one : OfMachine (allowance (tables 0) 0 + 1) 1 (after 0 (twice 0) .own 0) (after 0 (twice 0) .normal) → ⊥
+unfolding in1074 ofBits
+not-one h = by (subst (λ (n : ℕ). OfMachine 1 1 2 n) (lead .0 .5) (subst (λ (p : ℕ). OfMachine 1 1 p (after 0 (twice 0) .normal)) (lead .0 .3) h))
+  where
+    by : OfMachine 1 1 2 0 → ⊥
+    by (inl k) = no-le 2 1 tt k
+    by (inr k) = no-le (suc (1 * 2 ^ 1074)) (in1074 (f64 quarter64) * 2) tt k
+
 -- with P - 1 for P - 2: at 3 of 7 under allowance 0
 pub not-less-one : OfMachine (allowance (tables 0) 0 + 2) 1 (after 0 refusedToo .own 0) (after 0 refusedToo .normal) → ⊥
 unfolding in1074 ofBits
