@@ -1,6 +1,7 @@
--- Document 01's printed run comes out of the definitions: the opening is accepted, and the batch writes the row of the printed
--- example. "One machine, one state, all four fractions 0, SendPadding with timeout Uniform 10 to 10 (start and max 0), no limit or
--- counter, NormalSent to state 0 with probability 1, draw 0.25, one NormalSent at time 5."
+-- Document 01's printed run comes out of the definitions: the opening is accepted, and the batch writes
+-- the row of the printed example. "One machine, one state, all four fractions 0, SendPadding with
+-- timeout Uniform 10 to 10 (start and max 0), no limit or counter, NormalSent to state 0 with
+-- probability 1, draw 0.25, one NormalSent at time 5."
 use Prim.Native.Nat.{ℕ, _+_}
 use mathlib.Core.List.{[], _∷_}
 use mathlib.Core.Path.{_≡_, refl}
@@ -19,7 +20,7 @@ use Rattle.tables.specs.Machine.{beyondFraction, eachState, statesRefusal, mach
 use Rattle.tables.specs.Framework.{isFraction, fractionsRefusal}
 use Rattle.steps.specs.Limits.{belowFraction, belowLimitPadding, belowActionLimits}
 use Rattle.steps.specs.Transition.{enter, scheduleAction, updateOne, updateCounter, finish, transitionBy}
-use Rattle.steps.specs.Events.{Tables, each, noRuntime, countedBy, blockedFor, accounted, turn, machineTurn, processEvent, signals}
+use Rattle.steps.specs.Events.{Tables, Tapes, each, noRuntime, countedBy, blockedFor, accounted, turn, machineTurn, processEvent, signals}
 use Rattle.steps.specs.Framework.{startLimit, openTurn, opening, statesFit, fitsTables, kindsFit, eventsFit, batchRefusal, triggerEvents, actionRows, Batch, batch}
 use Rattle.steps.specs.Example.{stateWith, pairFirst, pairCount, quarter32, one32, ten64, f32}
 use Rattle.steps.specs.declared.Framework.{Framework}
@@ -75,10 +76,26 @@ answered = record {
 
 pub opens : opening tables zeroF zeroF 0 [] ≡ accepted
 unfolding
-    opening fractionsRefusal isFraction
-    validUniform tablesRefusal orElse firstRefusal wholeTables machineRefusal beyondFraction statesRefusal eachState stateRefusal eventsRefusal pairRefusal rowRefusal sumRefusal transitionRefusal isTarget improbable seenIn sumFrom codesUnknown actionUnknown commonUnknown neededUnknown counterUnknown distsInvalid actionInvalid counterInvalid invalid validate distAt distType isFinite rowsOf openTurn startLimit sampleLimit hasLimit each ofBits lt le add sub
+    opening fractionsRefusal isFraction validUniform tablesRefusal orElse firstRefusal wholeTables
+    machineRefusal beyondFraction statesRefusal eachState stateRefusal eventsRefusal pairRefusal
+    rowRefusal sumRefusal transitionRefusal isTarget improbable seenIn sumFrom codesUnknown
+    actionUnknown commonUnknown neededUnknown counterUnknown distsInvalid actionInvalid counterInvalid
+    invalid validate distAt distType isFinite rowsOf openTurn startLimit sampleLimit hasLimit each
+    ofBits lt le add sub
 opens = refl
 
-pub runs : batch (after 0 0) tables 5 (normalSent ∷ 0 ∷ []) (record { chances = f32 quarter32 ∷ []; values = [] }) (replicate 7 9) ≡ answered
-unfolding validUniform batch batchRefusal fitsTables statesFit eventsFit kindsFit tablesRefusal orElse firstRefusal wholeTables machineRefusal beyondFraction statesRefusal eachState stateRefusal eventsRefusal pairRefusal rowRefusal sumRefusal transitionRefusal isTarget improbable seenIn sumFrom codesUnknown actionUnknown commonUnknown neededUnknown counterUnknown distsInvalid actionInvalid counterInvalid invalid validate distAt distType isFinite rowsOf each ofBits lt le add sub triggerEvents processEvent accounted blockedFor machineTurn turn countedBy eventOf transitionBy chanceDraw sampleState walk enter updateCounter updateOne belowActionLimits belowLimitPadding belowFraction finish scheduleAction sampleTimeout sampleDuration sample distSample uniformDraw eq adjusted capped orZero roundAway signals actionRows
+abbrev tapes : Tapes
+tapes = record { chances = f32 quarter32 ∷ []; values = [] }
+
+pub runs : batch (after 0 0) tables 5 (normalSent ∷ 0 ∷ []) tapes (replicate 7 9) ≡ answered
+unfolding
+    validUniform batch batchRefusal fitsTables statesFit eventsFit kindsFit tablesRefusal orElse
+    firstRefusal wholeTables machineRefusal beyondFraction statesRefusal eachState stateRefusal
+    eventsRefusal pairRefusal rowRefusal sumRefusal transitionRefusal isTarget improbable seenIn
+    sumFrom codesUnknown actionUnknown commonUnknown neededUnknown counterUnknown distsInvalid
+    actionInvalid counterInvalid invalid validate distAt distType isFinite rowsOf each ofBits lt le add
+    sub triggerEvents processEvent accounted blockedFor machineTurn turn countedBy eventOf transitionBy
+    chanceDraw sampleState walk enter updateCounter updateOne belowActionLimits belowLimitPadding
+    belowFraction finish scheduleAction sampleTimeout sampleDuration sample distSample uniformDraw eq
+    adjusted capped orZero roundAway signals actionRows
 runs = refl

@@ -1,5 +1,6 @@
--- What a passed check of below_limit_padding says of exact numbers: by monotone rounding the test of an f64 quotient is an inequality
--- of whole numbers. So the checks are what the invariant asks of them. Assumes nothing.
+-- What a passed check of below_limit_padding says of exact numbers: by monotone rounding the test of an
+-- f64 quotient is an inequality of whole numbers. So the checks are what the invariant asks of them.
+-- Assumes nothing.
 use Prim.Native.Nat.{ℕ, _+_, _*_, _^_, _≤_, _<_}
 use native.Mathlib.Nat.{le-trans, le-of-lt}
 use native.Mathlib.Decide.{ℕ-discrete, decLt}
@@ -26,20 +27,24 @@ use Rattle.steps.specs.Budget.Invariant.{Checks}
 use Rattle.steps.specs.declared.MachineRuntime.{MachineRuntime}
 use Rattle.steps.specs.declared.Context.{Context}
 
--- ---- One fraction, at p padding beside n normal packets. Totals of at most 2 ^ 53 packets do not saturate.
+-- ---- One fraction, at p padding beside n normal packets. Totals of at most 2 ^ 53 packets do not
+-- saturate.
 uncapped : (p n : ℕ) → p + n ≤ 2 ^ 53 → saturatingAdd n p ≡ p + n
 uncapped p n h = omega arith
 
 module _ (f : Float) (p n : ℕ) (small : p + n ≤ 2 ^ 53) (some : p + n ≡ 0 → ⊥) where
   -- reaching the fraction stops
-  reaching-stops : (rest : Bool) → lt zeroF f ≡ true → reached p (p + n) f ≡ true → belowFraction f p n rest ≡ false
+  reaching-stops : (rest : Bool) → lt zeroF f ≡ true → reached p (p + n) f ≡ true
+      → belowFraction f p n rest ≡ false
   unfolding belowFraction
-  reaching-stops rest on e = rw (on, uncapped p n small, ne-eqb (p + n) 0 some) (ap (λ (b : Bool). cond b false rest) e)
+  reaching-stops rest on e =
+      rw (on, uncapped p n small, ne-eqb (p + n) 0 some) (ap (λ (b : Bool). cond b false rest) e)
 
   -- and so does what follows it
   rest-stops : (rest : Bool) → rest ≡ false → belowFraction f p n rest ≡ false
   unfolding belowFraction
-  rest-stops rest e = rw (e, uncapped p n small, ne-eqb (p + n) 0 some) (go (lt zeroF f) (reached p (p + n) f))
+  rest-stops rest e =
+      rw (e, uncapped p n small, ne-eqb (p + n) 0 some) (go (lt zeroF f) (reached p (p + n) f))
     where
       go : (a b : Bool) → cond a (cond b false false) false ≡ false
       go true true = refl
@@ -47,7 +52,8 @@ module _ (f : Float) (p n : ℕ) (small : p + n ≤ 2 ^ 53) (some : p + n ≡ 0 
       go false b = refl
 
   -- where a fraction above 0 does not stop, the quotient is below it exactly
-  below-exactly : T (fits binary64 f) → 0 < in1074 f → (((rest : Bool) → belowFraction f p n rest ≡ false) → ⊥)
+  below-exactly : T (fits binary64 f) → 0 < in1074 f
+      → (((rest : Bool) → belowFraction f p n rest ≡ false) → ⊥)
       → p * 2 ^ 1074 < in1074 f * (p + n)
   below-exactly k h passes = go (reached p (p + n) f) refl
     where
@@ -61,26 +67,32 @@ module _ (f : Float) (p n : ℕ) (small : p + n ≤ 2 ^ 53) (some : p + n ≡ 0 
       more a b = omega arith
 
       go : (b : Bool) → reached p (p + n) f ≡ b → p * 2 ^ 1074 < in1074 f * (p + n)
-      go true e = absurd (passes (λ rest. reaching-stops rest (unfold ofBits in positive-above f pos) e))
-      go false e = passed-is-below f p (p + n) k pos (le-trans (more p n) small) small (above (p + n) some) e
+      go true e =
+          absurd (passes (λ rest. reaching-stops rest (unfold ofBits in positive-above f pos) e))
+      go false e =
+          passed-is-below f p (p + n) k pos (le-trans (more p n) small) small (above (p + n) some) e
 
--- ---- below_limit_padding, beyond the allowance and with some packets sent: the machine's fraction and the framework's both stop
+-- ---- below_limit_padding, beyond the allowance and with some packets sent: the machine's fraction and
+-- the framework's both stop
 abbrev total : MachineRuntime → ℕ
 total r = r .«padding_sent» + r .«normal_sent»
 
-module _ (c : Context) (r : MachineRuntime) (over : r .«padding_sent» < c .«allowed_padding_packets» → ⊥) where
+module _ (c : Context) (r : MachineRuntime)
+    (over : r .«padding_sent» < c .«allowed_padding_packets» → ⊥) where
   own-stops : ((rest : Bool) → belowFraction (c .«machine_padding_frac») (r .«padding_sent») (r .«normal_sent») rest ≡ false)
       → belowLimitPadding c r ≡ false
   unfolding belowLimitPadding
   own-stops e = rw (le-ltb (r .«padding_sent») (c .«allowed_padding_packets») (omega arith), e _)
 
   all-stops : total r ≤ 2 ^ 53 → (total r ≡ 0 → ⊥)
-      → ((rest : Bool) → belowFraction (c .«max_padding_frac») (c .«padding_sent_packets») (c .«normal_sent_packets») rest ≡ false)
+      → ((rest : Bool) → belowFraction (c .«max_padding_frac») (c .«padding_sent_packets»)
+      (c .«normal_sent_packets») rest ≡ false)
       → belowLimitPadding c r ≡ false
   unfolding belowLimitPadding
   all-stops small some e =
       rw (le-ltb (r .«padding_sent») (c .«allowed_padding_packets») (omega arith))
-      (rest-stops (c .«machine_padding_frac») (r .«padding_sent») (r .«normal_sent») small some _ (e (limitLeft r)))
+      (rest-stops (c .«machine_padding_frac») (r .«padding_sent») (r .«normal_sent») small some _
+      (e (limitLeft r)))
 
 -- ---- the numbers that a check reads, and what a passed check says of them
 pub record Numbers : Type 0 where
@@ -106,12 +118,15 @@ numbersOf c r = record {
 abbrev pub OwnLaw : Numbers → Type 0
 OwnLaw x =
     T (fits binary64 (x .f)) → 0 < in1074 (x .f) → x .own + x .heard ≤ 2 ^ 53
-    → (x .own < x .allowed) ⊎ ((x .own + x .heard ≡ 0) ⊎ (x .own * 2 ^ 1074 < in1074 (x .f) * (x .own + x .heard)))
+    → (x .own < x .allowed) ⊎ ((x .own + x .heard ≡ 0)
+    ⊎ (x .own * 2 ^ 1074 < in1074 (x .f) * (x .own + x .heard)))
 
 abbrev pub AllLaw : Numbers → Type 0
 AllLaw x =
-    T (fits binary64 (x .F)) → 0 < in1074 (x .F) → x .own ≤ x .padding → x .heard ≡ x .normal → x .padding + x .normal ≤ 2 ^ 53
-    → (x .own < x .allowed) ⊎ ((x .own + x .heard ≡ 0) ⊎ (x .padding * 2 ^ 1074 ≤ in1074 (x .F) * (x .padding + x .normal)))
+    T (fits binary64 (x .F)) → 0 < in1074 (x .F) → x .own ≤ x .padding → x .heard ≡ x .normal
+    → x .padding + x .normal ≤ 2 ^ 53
+    → (x .own < x .allowed) ⊎ ((x .own + x .heard ≡ 0)
+    ⊎ (x .padding * 2 ^ 1074 ≤ in1074 (x .F) * (x .padding + x .normal)))
 
 module _ (c : Context) (r : MachineRuntime) (passed : belowLimitPadding c r ≡ true) where
   stops : belowLimitPadding c r ≡ false → ⊥
@@ -135,7 +150,8 @@ module _ (c : Context) (r : MachineRuntime) (passed : belowLimitPadding c r ≡ 
     | no a ↦ inr (elim (ℕ-discrete (total r) 0) [
       | yes z ↦ inl z
       | no z ↦ inr (le-of-lt (
-          below-exactly (c .«max_padding_frac») (c .«padding_sent_packets») (c .«normal_sent_packets») small (λ e. z (omega arith)) k h
+          below-exactly (c .«max_padding_frac») (c .«padding_sent_packets») (c .«normal_sent_packets»)
+          small (λ e. z (omega arith)) k h
           (λ e. stops (all-stops c r a (omega arith) z e))
           ))
     ])
@@ -148,7 +164,8 @@ pub record Passed (x : Numbers) : Type 0 where
   pub reads : numbersOf context runtime ≡ x
   pub passed : belowLimitPadding context runtime ≡ true
 
--- ---- what an accepted opening fixes: its tables, of at most 16 machines, and the framework's fraction, an f64
+-- ---- what an accepted opening fixes: its tables, of at most 16 machines, and the framework's
+-- fraction, an f64
 pub record Setup : Type 0 where
   pub tables : Tables
   pub F : Float
@@ -184,7 +201,9 @@ checks S = record {
   Pass = λ i p n s. Passed (numbersAt S i p n s);
   own-law = λ i p n s m h l small x.
       subst OwnLaw (x .reads) (own-passed (x .context) (x .runtime) (x .passed))
-      (ofBits-fits binary64 (machineWord (S .tables .machines) i maxPaddingFrac)) h (fewer p n s l small);
+      (ofBits-fits binary64 (machineWord (S .tables .machines) i maxPaddingFrac)) h
+      (fewer p n s l small);
   all-law = λ i p n s m h l small x.
-      subst AllLaw (x .reads) (all-passed (x .context) (x .runtime) (x .passed)) (S .f64) h l refl small;
+      subst AllLaw (x .reads) (all-passed (x .context) (x .runtime) (x .passed)) (S .f64) h l refl
+      small;
 }

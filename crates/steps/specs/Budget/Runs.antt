@@ -1,6 +1,7 @@
--- A run of a call over all machines. `Live l x`: the ledger l with the pending actions of the run x keeps the invariant, and x's counts
--- are the ledger's. In an event's turns the machines that still wait have the ledger's counts from before it and the others those
--- from after it: `Mid`. A machine's own turn changes its own counts and action alone. Assumes nothing.
+-- A run of a call over all machines. `Live l x`: the ledger l with the pending actions of the run x
+-- keeps the invariant, and x's counts are the ledger's. In an event's turns the machines that still
+-- wait have the ledger's counts from before it and the others those from after it: `Mid`. A machine's
+-- own turn changes its own counts and action alone. Assumes nothing.
 use Prim.Native.Nat.{ℕ, zero, suc, _+_, _^_, _≤_, _<_}
 use native.Mathlib.Decide.{ℕ-discrete, decLt}
 use native.Mathlib.Omega.{arith}
@@ -29,7 +30,8 @@ abbrev pub Ok : (Run → Type 0) → Outcome → Type 0
 Ok P (stop n) = 0 < n
 Ok P (go x) = P x
 
-pub ok-then : (P Q : Run → Type 0) (o : Outcome) (f : Run → Outcome) → Ok P o → ((x : Run) → P x → Ok Q (f x)) → Ok Q (andThen o f)
+pub ok-then : (P Q : Run → Type 0) (o : Outcome) (f : Run → Outcome) → Ok P o
+    → ((x : Run) → P x → Ok Q (f x)) → Ok Q (andThen o f)
 ok-then P Q (stop n) f h k = h
 ok-then P Q (go x) f h k = k x h
 
@@ -38,11 +40,14 @@ ok-map P Q (stop n) h k = h
 ok-map P Q (go x) h k = k x h
 
 -- P n i x holds of the run x where n turns from turn i on are left
-pub each-ok : (P : ℕ → ℕ → Run → Type 0) (f : ℕ → Run → Outcome) → ((n i : ℕ) (x : Run) → P (suc n) i x → Ok (P n (i + 1)) (f i x))
+pub each-ok : (P : ℕ → ℕ → Run → Type 0) (f : ℕ → Run → Outcome)
+    → ((n i : ℕ) (x : Run) → P (suc n) i x → Ok (P n (i + 1)) (f i x))
     → (n i : ℕ) (x : Run) → P n i x → Ok (λ y. (j : ℕ) × P zero j y) (each f n i x)
 unfolding each
 each-ok P f h zero i x p = (i, p)
-each-ok P f h (suc n) i x p = ok-then (P n (i + 1)) (λ y. (j : ℕ) × P zero j y) (f i x) (each f n (i + 1)) (h n i x p) (each-ok P f h n (i + 1))
+each-ok P f h (suc n) i x p =
+    ok-then (P n (i + 1)) (λ y. (j : ℕ) × P zero j y) (f i x) (each f n (i + 1)) (h n i x p)
+    (each-ok P f h n (i + 1))
 
 module _ (S : Setup) where
   open Setup S using (tables, F, few)
@@ -86,8 +91,10 @@ module _ (S : Setup) where
   abbrev pub Why : Ledger → (ℕ → Bool) → ℕ → Type 0
   Why l a i = T (a i) ⊎ Passed (numbersAt S i (l .own i) (l .normal) (l .padding))
 
-  pub by-check : (l : Ledger) (a : ℕ → Bool) (fw : Framework) → Frame l fw → (i : ℕ) (r : MachineRuntime)
-      → r .«padding_sent» ≡ l .own i → r .«normal_sent» ≡ l .normal → belowLimitPadding (contextOf tables fw i) r ≡ true → Why l a i
+  pub by-check : (l : Ledger) (a : ℕ → Bool) (fw : Framework) → Frame l fw
+      → (i : ℕ) (r : MachineRuntime)
+      → r .«padding_sent» ≡ l .own i → r .«normal_sent» ≡ l .normal
+      → belowLimitPadding (contextOf tables fw i) r ≡ true → Why l a i
   by-check l a fw f i r p n b = inr (record {
     context = contextOf tables fw i;
     runtime = r;
@@ -104,7 +111,8 @@ module _ (S : Setup) where
   })
 
   -- ---- a machine's step goes back into the run
-  pub store : (l l' : Ledger) (a : ℕ → Bool) (k n : ℕ) (x : Run) → Mid l l' a k (suc n) x → k < M → (s : Stepped)
+  pub store : (l l' : Ledger) (a : ℕ → Bool) (k n : ℕ) (x : Run) → Mid l l' a k (suc n) x → k < M
+      → (s : Stepped)
       → Kept (l' .own k) (l' .normal) (Why l' a k) s → Ok (Mid l l' a (k + 1) n) (stored x k s)
   store l l' a k n x m h (Refused j) o = o
   store l l' a k n x m h (Done d) o = record {
@@ -122,8 +130,12 @@ module _ (S : Setup) where
       | no e ↦ other l' i e (m .had i p (side i e q))
     ];
     acts = λ i t. elim (ℕ-discrete i k) [
-      | yes e ↦ subst (λ (j : ℕ). T (isPadding (getD (set (x .actions) k (d .action)) j noAction)) → (j < M) × Why l' a j) (sym e) act t
-      | no e ↦ m .acts i (subst (λ (z : TriggerAction). T (isPadding z)) (getD-set-other (x .actions) k i (d .action) noAction e) t)
+      | yes e ↦
+          subst (λ (j : ℕ). T (isPadding (getD (set (x .actions) k (d .action)) j noAction)) → (j < M)
+          × Why l' a j) (sym e) act t
+      | no e ↦
+          m .acts i (subst (λ (z : TriggerAction). T (isPadding z))
+          (getD-set-other (x .actions) k i (d .action) noAction e) t)
     ];
   }
     where
@@ -141,16 +153,23 @@ module _ (S : Setup) where
       side i e (inr q) = inr (omega arith)
 
       other : (l : Ledger) (i : ℕ) → (i ≡ k → ⊥) → At l (x .framework) i → At l now i
-      other l i e = subst (Has (l .own i) (l .normal)) (sym (getD-set-other (x .framework .runtime) k i (d .runtime) noRuntime e))
+      other l i e =
+          subst (Has (l .own i) (l .normal))
+          (sym (getD-set-other (x .framework .runtime) k i (d .runtime) noRuntime e))
 
       own : At l' now k
       own =
           subst (Has (l' .own k) (l' .normal))
-          (sym (getD-set-same (x .framework .runtime) k (d .runtime) noRuntime (inside (length (x .framework .runtime)) (m .frame .room)))) (o .0)
+          (sym (getD-set-same (x .framework .runtime) k (d .runtime) noRuntime
+          (inside (length (x .framework .runtime)) (m .frame .room)))) (o .0)
 
       act : T (isPadding (getD (set (x .actions) k (d .action)) k noAction)) → (k < M) × Why l' a k
-      act t =
-          (h, o .1 (subst (λ (z : TriggerAction). T (isPadding z)) (getD-set-same (x .actions) k (d .action) noAction (inside (length (x .actions)) (m .room))) t))
+      act t = (
+        h,
+        o .1 (subst (λ (z : TriggerAction). T (isPadding z))
+            (getD-set-same (x .actions) k (d .action) noAction (inside (length (x .actions)) (m .room)))
+            t),
+      )
 
   pub num-is : (l : Ledger) (fw : Framework) → Frame l fw → numMachines fw ≡ M
   num-is l fw f = let e = f .machines in omega (arith, few)
@@ -159,7 +178,8 @@ module _ (S : Setup) where
   abbrev pub Live : Ledger → Run → Type 0
   Live l x = Inv (checks S) l (sends x) × Same l x
 
-  pub mid-live : (l l' : Ledger) (x y : Run) (k : ℕ) → packets l' ≤ 2 ^ 53 → Inv (checks S) l' (sends x) → Mid l l' (sends x) k 0 y → Live l' y
+  pub mid-live : (l l' : Ledger) (x y : Run) (k : ℕ) → packets l' ≤ 2 ^ 53 → Inv (checks S) l' (sends x)
+      → Mid l l' (sends x) k 0 y → Live l' y
   mid-live l l' x y k small v m = (
     inv-acts (checks S) l' (sends x) (sends y) small v (m .acts),
     record { frame = m .frame; room = m .room; at = λ i h. m .had i h (side i) },

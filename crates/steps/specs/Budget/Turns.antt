@@ -27,15 +27,19 @@ module _ (S : Setup) where
   open Setup S using (tables)
 
   -- ---- an event
-  accounted-frame : (l : Ledger) (machine : ℕ) (fw : Framework) → Frame S l fw → (kind : ℕ) → packets (count l kind machine) ≤ 2 ^ 53
+  accounted-frame : (l : Ledger) (machine : ℕ) (fw : Framework) → Frame S l fw → (kind : ℕ)
+      → packets (count l kind machine) ≤ 2 ^ 53
       → Frame S (count l kind machine) (accounted kind fw)
   unfolding accounted
   accounted-frame l machine fw f =
-      kind-cases (λ kind. packets (count l kind machine) ≤ 2 ^ 53 → Frame S (count l kind machine) (accounted kind fw))
+      kind-cases (λ kind. packets (count l kind machine) ≤ 2 ^ 53 → Frame S (count l kind machine)
+      (accounted kind fw))
       (λ k. record {
         machines = f .machines;
         frac = f .frac;
-        normal = ap up (f .normal) ∙ one-more (l .normal) (l .padding + l .normal) (omega arith) (omega arith);
+        normal =
+            ap up (f .normal) ∙ one-more (l .normal) (l .padding + l .normal) (omega arith)
+            (omega arith);
         padding = f .padding;
         room = f .room;
       })
@@ -43,20 +47,30 @@ module _ (S : Setup) where
         machines = f .machines;
         frac = f .frac;
         normal = f .normal;
-        padding = ap up (f .padding) ∙ one-more (l .padding) (l .padding + l .normal) (omega arith) (omega arith);
+        padding =
+            ap up (f .padding) ∙ one-more (l .padding) (l .padding + l .normal) (omega arith)
+            (omega arith);
         room = f .room;
       })
       (λ kind a b k.
       rw (ne-eqb kind normalSent a, ne-eqb kind paddingSent b)
       (either (Frame S l) (eqb kind blockingBegin) _ _ (either (Frame S l) (isBlocking fw) _ _ f same)
-      (either (Frame S l) (eqb kind blockingEnd) _ _ (either (Frame S l) (isBlocking fw) _ _ same f) f)))
+      (either (Frame S l) (eqb kind blockingEnd) _ _ (either (Frame S l) (isBlocking fw) _ _ same f)
+      f)))
     where
       up : ℕ → ℕ
       up z = saturatingAdd z 1
 
       -- blocking is no part of it
       same : {d s o : ℕ} → Frame S l (withBlocking fw d s o)
-      same = record { machines = f .machines; frac = f .frac; normal = f .normal; padding = f .padding; room = f .room }
+      same =
+          record {
+            machines = f .machines;
+            frac = f .frac;
+            normal = f .normal;
+            padding = f .padding;
+            room = f .room;
+          }
 
   accounted-runtime : (kind : ℕ) (fw : Framework) → accounted kind fw .runtime ≡ fw .runtime
   unfolding accounted
@@ -69,13 +83,16 @@ module _ (S : Setup) where
       Kept' : Framework → Type 0
       Kept' g = g .runtime ≡ fw .runtime
 
-  pub event-ok : (D : Tapes) (l : Ledger) (kind machine : ℕ) (x : Run) → Live S l x → (kind ≡ paddingSent → T (l .held machine))
-      → packets (count l kind machine) ≤ 2 ^ 53 → Ok (Live S (count l kind machine)) (processEvent tables D kind machine x)
+  pub event-ok : (D : Tapes) (l : Ledger) (kind machine : ℕ) (x : Run) → Live S l x
+      → (kind ≡ paddingSent → T (l .held machine))
+      → packets (count l kind machine) ≤ 2 ^ 53
+      → Ok (Live S (count l kind machine)) (processEvent tables D kind machine x)
   unfolding processEvent
   event-ok D l kind machine x (v, s) h small =
       ok-map (λ y. (j : ℕ) × P zero j y) (Live S l') (each f n (firstFor kind machine) (account kind x))
       (each-ok P f step n (firstFor kind machine) (account kind x) (range, start))
-      (λ y q. mid-live S l l' x y (q .0) small (inv-count (checks S) l (sends S x) kind machine v h) (q .1 .1))
+      (λ y q. mid-live S l l' x y (q .0) small (inv-count (checks S) l (sends S x) kind machine v h)
+      (q .1 .1))
     where
       l' : Ledger
       l' = count l kind machine
@@ -96,10 +113,14 @@ module _ (S : Setup) where
       num = num-is S l (x .framework) (s .frame)
 
       range : (i : ℕ) → firstFor kind machine ≤ i → i < firstFor kind machine + n → Turns i
-      range i p q = let t = turn-range kind machine (numMachines (x .framework)) i p q in (subst (λ (z : ℕ). i < z) num (t .0), t .1)
+      range i p q =
+          let t = turn-range kind machine (numMachines (x .framework)) i p q in
+          (subst (λ (z : ℕ). i < z) num (t .0), t .1)
 
       moved : (l : Ledger) (i : ℕ) → At S l (x .framework) i → At S l (accounted kind (x .framework)) i
-      moved l i = subst (λ (z : List MachineRuntime). Has (l .own i) (l .normal) (getD z i noRuntime)) (sym (accounted-runtime kind (x .framework)))
+      moved l i =
+          subst (λ (z : List MachineRuntime). Has (l .own i) (l .normal) (getD z i noRuntime))
+          (sym (accounted-runtime kind (x .framework)))
 
       start : Mid S l l' (sends S x) (firstFor kind machine) n (account kind x)
       start = record {
@@ -107,7 +128,8 @@ module _ (S : Setup) where
         room = s .room;
         waits = λ i p q. moved l i (s .at i (range i p q .0));
         had = λ i p q.
-            let t = no-turn kind machine (numMachines (x .framework)) i (subst (λ (z : ℕ). i < z) (sym num) p) q in
+            let m = subst (λ (z : ℕ). i < z) (sym num) p in
+            let t = no-turn kind machine (numMachines (x .framework)) i m q in
             moved l' i (uncounted l machine i (runtimeAt (x .framework) i) (s .at i p) kind (t .0) (t .1));
         acts = λ i t. (v .actor i t, inl t);
       }
@@ -119,23 +141,30 @@ module _ (S : Setup) where
           unfold machineTurn in
           ok-map (Mid S l l' (sends S x) (k + 1) n) (P n (k + 1)) (f k y)
           (store S l l' (sends S x) k n y m (mine .0)
-          (turn E kind (limitFalls kind machine k) (blockedFor (x .framework)) (runtimeAt (y .framework) k) (y .shared) (getD (y .actions) k noAction))
-          (turn-kept E (l' .own k) (l' .normal) (Why S l' (sends S x) k) (by-check S l' (sends S x) (y .framework) (m .frame) k)
-          kind (limitFalls kind machine k) (blockedFor (x .framework)) (runtimeAt (y .framework) k) (y .shared) (getD (y .actions) k noAction)
+          (turn E kind (limitFalls kind machine k) (blockedFor (x .framework))
+          (runtimeAt (y .framework) k) (y .shared) (getD (y .actions) k noAction))
+          (turn-kept E (l' .own k) (l' .normal) (Why S l' (sends S x) k)
+          (by-check S l' (sends S x) (y .framework) (m .frame) k)
+          kind (limitFalls kind machine k) (blockedFor (x .framework)) (runtimeAt (y .framework) k)
+          (y .shared) (getD (y .actions) k noAction)
           (counted-has l machine (blockedFor (x .framework)) k (runtimeAt (y .framework) k)
-          (inv-owned (checks S) l (sends S x) v k (mine .0)) (m .waits k (le-refl k) (omega arith)) kind small (mine .1))
+          (inv-owned (checks S) l (sends S x) v k (mine .0)) (m .waits k (le-refl k) (omega arith)) kind
+          small (mine .1))
           (λ t. m .acts k t .1)))
           (λ z w. ((λ i p q. r i (omega arith) (omega arith)), w))
 
   -- ---- the signals
-  signal-ok : (D : Tapes) (l : Ledger) (i : ℕ) → i < machinesOf S → packets l ≤ 2 ^ 53 → (x : Run) → Live S l x → Ok (Live S l) (signalMachine tables D i x)
+  signal-ok : (D : Tapes) (l : Ledger) (i : ℕ) → i < machinesOf S → packets l ≤ 2 ^ 53 → (x : Run)
+      → Live S l x → Ok (Live S l) (signalMachine tables D i x)
   unfolding signalMachine
   signal-ok D l i h small x (v, s) =
       ok-map (Mid S l l (sends S x) (i + 1) 0) (Live S l) (signalMachine tables D i x)
       (store S l l (sends S x) i 0 x start h
       (transition E signal (runtimeAt (x .framework) i) (x .shared) (getD (x .actions) i noAction))
-      (transition-kept E (l .own i) (l .normal) (Why S l (sends S x) i) (by-check S l (sends S x) (x .framework) (s .frame) i)
-      signal (runtimeAt (x .framework) i) (x .shared) (getD (x .actions) i noAction) (s .at i h) (λ t. inl t)))
+      (transition-kept E (l .own i) (l .normal) (Why S l (sends S x) i)
+      (by-check S l (sends S x) (x .framework) (s .frame) i)
+      signal (runtimeAt (x .framework) i) (x .shared) (getD (x .actions) i noAction) (s .at i h)
+      (λ t. inl t)))
       (λ y m. mid-live S l l x y (i + 1) small v m)
     where
       E : Env
@@ -150,12 +179,16 @@ module _ (S : Setup) where
         acts = λ j t. (v .actor j t, inl t);
       }
 
-  pub signals-ok : (D : Tapes) (l : Ledger) → packets l ≤ 2 ^ 53 → (x : Run) → Live S l x → Ok (Live S l) (signals tables D x)
+  pub signals-ok : (D : Tapes) (l : Ledger) → packets l ≤ 2 ^ 53 → (x : Run) → Live S l x
+      → Ok (Live S l) (signals tables D x)
   unfolding signals
   signals-ok D l small x (v, s) =
       either (Ok (Live S l)) (eqb (pendingOf x) 0) _ _ (v, s)
-      (ok-then (λ y. (j : ℕ) × P zero j y) (Live S l) (each (signalTurn tables D (pendingOf x)) (numMachines (x .framework)) 0 (unsignalled x)) (lastSignal tables D (pendingOf x))
-      (each-ok P (signalTurn tables D (pendingOf x)) step (numMachines (x .framework)) 0 (unsignalled x) (start, taken x (v, s)))
+      (ok-then (λ y. (j : ℕ) × P zero j y) (Live S l)
+      (each (signalTurn tables D (pendingOf x)) (numMachines (x .framework)) 0 (unsignalled x))
+      (lastSignal tables D (pendingOf x))
+      (each-ok P (signalTurn tables D (pendingOf x)) step (numMachines (x .framework)) 0 (unsignalled x)
+      (start, taken x (v, s)))
       (λ y q. last y (q .1 .1)))
     where
       P : ℕ → ℕ → Run → Type 0
@@ -167,17 +200,24 @@ module _ (S : Setup) where
       start : 0 + numMachines (x .framework) ≤ machinesOf S
       start = let e = num-is S l (x .framework) (s .frame) in omega arith
 
-      step : (n i : ℕ) (y : Run) → P (suc n) i y → Ok (P n (i + 1)) (signalTurn tables D (pendingOf x) i y)
+      step : (n i : ℕ) (y : Run) → P (suc n) i y
+          → Ok (P n (i + 1)) (signalTurn tables D (pendingOf x) i y)
       step n i y (h, w) =
           ok-map (Live S l) (P n (i + 1)) (signalTurn tables D (pendingOf x) i y)
-          (either (Ok (Live S l)) (eqb (pendingOf x) (2 + i)) (go y) (signalMachine tables D i y) w (signal-ok D l i (omega arith) small y w))
+          (either (Ok (Live S l)) (eqb (pendingOf x) (2 + i)) (go y) (signalMachine tables D i y) w
+          (signal-ok D l i (omega arith) small y w))
           (λ z u. (omega arith, u))
 
       last : (y : Run) → Live S l y → Ok (Live S l) (lastSignal tables D (pendingOf x) y)
-      last y w = either (Ok (Live S l)) (eqb (pendingOf y) 0) (go y) _ w (out (leb 2 (pendingOf x)) (ltb (pendingOf x) (2 + numMachines (y .framework))) (leb-true 2 (pendingOf x)) (ltb-true (pendingOf x) (2 + numMachines (y .framework))))
+      last y w =
+          either (Ok (Live S l)) (eqb (pendingOf y) 0) (go y) _ w
+          (out (leb 2 (pendingOf x)) (ltb (pendingOf x) (2 + numMachines (y .framework)))
+          (leb-true 2 (pendingOf x)) (ltb-true (pendingOf x) (2 + numMachines (y .framework))))
         where
-          out : (b c : Bool) → (b ≡ true → 2 ≤ pendingOf x) → (c ≡ true → pendingOf x < 2 + numMachines (y .framework))
-              → Ok (Live S l) (cond (b && c) (signalMachine tables D (pendingOf x - 2) (unsignalled y)) (go (unsignalled y)))
+          out : (b c : Bool) → (b ≡ true → 2 ≤ pendingOf x)
+              → (c ≡ true → pendingOf x < 2 + numMachines (y .framework))
+              → Ok (Live S l) (cond (b && c) (signalMachine tables D (pendingOf x - 2) (unsignalled y))
+              (go (unsignalled y)))
           out true true p q =
               let a = p refl in
               let b = q refl in
