@@ -1,17 +1,22 @@
--- Demand 3: no padding budget is overdrawn. This file is the statement; the proof is in the files of Budget/ and ends with
--- `Theorem`. What stands in quotes is document 01's paragraph on what demand 3 counts, whole and in its order.
+-- Demand 3: no padding budget is overdrawn. This file is the statement; the proof is in the files of
+-- Budget/ and ends with `Theorem`. What stands in quotes is document 01's paragraph on what demand 3
+-- counts, whole and in its order.
 --
--- "Demand 3 counts the events and returned rows of its list's accepted batches, never the framework's own numbers."
+-- "Demand 3 counts the events and returned rows of its list's accepted batches, never the framework's
+-- own numbers."
 pub mod Sums
 pub mod Invariant
 pub mod Check
 pub mod Draws
 pub mod Machine
+pub mod Counts
+pub mod Runs
 pub mod Turns
 pub mod Rows
 pub mod Batches
 pub mod Opening
 pub mod Theorem
+pub mod Reached
 use Prim.Native.Nat.{ℕ, zero, suc, _+_, _-_, _*_, _^_, _≤_, _<_}
 use mathlib.Core.List.{List, [], _∷_}
 use mathlib.Core.Bool.{Bool, true, false, cond, _&&_, _||_}
@@ -28,7 +33,7 @@ use Rattle.steps.specs.Events.{Tables, Tapes, machineWord}
 use Rattle.steps.specs.Framework.{opening, Batch, batch, rowsIn}
 use Rattle.steps.specs.declared.Framework.{Framework}
 
--- ---- a batch of a list: what the sender lends, and its answer in the framework x
+-- ---- a batch of a list: what the sender lends
 pub record Call : Type 0 where
   pub tables : Tables
   pub time : ℕ
@@ -36,6 +41,7 @@ pub record Call : Type 0 where
   pub tapes : Tapes
   pub out : List ℕ
 
+-- its answer and output, its refusal or 0, and the framework that it returns, where it gets the framework x
 abbrev pub answerOf : Framework → Call → Batch
 answerOf x c = batch x (c .tables) (c .time) (c .events) (c .tapes) (c .out)
 
@@ -45,8 +51,8 @@ refusalOf x c = answerOf x c .answer .refusal
 abbrev pub frameworkOf : Framework → Call → Framework
 frameworkOf x c = answerOf x c .answer .framework
 
--- ---- What is counted. `own i` is machine i's P. `held i` says whether machine i holds a SendPadding; within a batch, one that it
--- held when the batch began and has not spent in it.
+-- ---- What is counted. `own i` is machine i's P. `held i` says whether machine i holds a SendPadding;
+-- within a batch, one that it held when the batch began and has not spent in it.
 pub record Ledger : Type 0 where
   pub normal : ℕ
   pub padding : ℕ
@@ -57,14 +63,16 @@ pub record Ledger : Type 0 where
 abbrev pub empty : Ledger
 empty = record { normal = 0; padding = 0; own = λ i. 0; held = λ i. false }
 
--- "NormalSent adds a normal packet. PaddingSent adds 1 to all padding and to its machine's P, and spends what that machine held when
--- the batch began: nothing for an unknown machine, or for the same one again in that batch."
+-- one more at this machine, and nothing held there
 abbrev pub plus : (ℕ → ℕ) → ℕ → ℕ → ℕ
 plus own machine i = cond (eqb machine i) (suc (own i)) (own i)
 
 abbrev pub without : (ℕ → Bool) → ℕ → ℕ → Bool
 without held machine i = cond (eqb machine i) false (held i)
 
+-- "NormalSent adds a normal packet. PaddingSent adds 1 to all padding and to its machine's P, and
+-- spends what that machine held when the batch began: nothing for an unknown machine, or for the same
+-- one again in that batch."
 abbrev pub count : Ledger → ℕ → ℕ → Ledger
 count l kind machine =
     cond (eqb kind normalSent)
@@ -79,8 +87,9 @@ counted l [] = l
 counted l (kind ∷ []) = l
 counted l (kind ∷ machine ∷ es) = counted (count l kind machine) es
 
--- "At the batch's end each machine with a returned SendPadding holds one, never two; one not spent stays."
--- The returned rows are the first rows, of six words each, that the output holds: machine, kind, ..
+-- "At the batch's end each machine with a returned SendPadding holds one, never two; one not spent
+-- stays." The returned rows are the first rows, of six words each, that the output holds: machine,
+-- kind, ..
 abbrev pub returnsPadding : List ℕ → ℕ → ℕ → Bool
 returnsPadding out zero i = false
 returnsPadding out (suc n) i =
@@ -105,8 +114,9 @@ ledger l x (c ∷ cs) = ledger (afterCall l x c) (frameworkOf x c) cs
 abbrev pub packets : Ledger → ℕ
 packets l = l .padding + l .normal
 
--- ---- The lists meant (demand 3): "each accepted one is lent the opening's tables; each PaddingSent in an accepted one spends the
--- SendPadding its machine held when that batch began". Of a refused one nothing is asked.
+-- ---- The lists meant (demand 3): "each accepted one is lent the opening's tables; each PaddingSent in
+-- an accepted one spends the SendPadding its machine held when that batch began". Of a refused one
+-- nothing is asked.
 abbrev pub Spends : Ledger → List ℕ → Type 0
 Spends l [] = Unit
 Spends l (kind ∷ []) = Unit
@@ -118,29 +128,33 @@ Lists tables l x (c ∷ cs) =
     (refusalOf x c ≡ 0 → (c .tables ≡ tables) × Spends l (c .events))
     × Lists tables (afterCall l x c) (frameworkOf x c) cs
 
--- ---- the budgets (demand 3): "a fraction is its f64 as a whole number of 2^-1074ths, and both sides are compared in these"
+-- ---- the budgets (demand 3): "a fraction is its f64 as a whole number of 2^-1074ths, and both sides
+-- are compared in these"
+-- machine i's A and f
 abbrev pub allowance : Tables → ℕ → ℕ
 allowance tables i = machineWord (tables .machines) i allowedPaddingPackets
 
 abbrev pub fraction : Tables → ℕ → Float
 fraction tables i = ofBits binary64 (machineWord (tables .machines) i maxPaddingFrac)
 
+-- over the first m machines
 abbrev pub sum : ℕ → (ℕ → ℕ) → ℕ
 sum zero h = 0
 sum (suc m) h = sum m h + h m
 
--- Machine: "either P is at most A + 2, or P - 2 is below f × T". Framework: "padding is at most F × all packets + the sum of
--- allowances + 4 × M".
+-- Machine: "either P is at most A + 2, or P - 2 is below f × T". Framework: "padding is at most F × all
+-- packets + the sum of allowances + 4 × M".
 pub record Budgets (tables : Tables) (F : Float) (l : Ledger) : Type 0 where
   pub machine : (i : ℕ) → i < rowsIn (tables .machines) → lt zeroF (fraction tables i) ≡ true
       → (l .own i ≤ allowance tables i + 2)
       ⊎ ((l .own i - 2) * 2 ^ 1074 < in1074 (fraction tables i) * (l .own i + l .normal))
   pub framework : lt zeroF F ≡ true
       → l .padding * 2 ^ 1074
-      ≤ in1074 F * packets l + (sum (rowsIn (tables .machines)) (allowance tables) + 4 * rowsIn (tables .machines)) * 2 ^ 1074
+      ≤ in1074 F * packets l
+      + (sum (rowsIn (tables .machines)) (allowance tables) + 4 * rowsIn (tables .machines)) * 2 ^ 1074
 
--- ---- "It is a single claim about the list, not one for each call." The opening: tables, both fractions, of which F is the padding
--- fraction and an f64, time and value tape.
+-- ---- "It is a single claim about the list, not one for each call." The opening: tables, both
+-- fractions, of which F is the padding fraction and an f64, time and value tape.
 abbrev pub NoBudgetOverdrawn : Type 0
 NoBudgetOverdrawn =
     (tables : Tables) (F blocking : Float) (time : ℕ) (values : List Float) (cs : List Call)

@@ -1,10 +1,11 @@
--- Document 01's marked cases: a table of what the definitions answer beside what document 01 says, under one statement.
+-- Document 01's marked cases: a table of what the definitions answer beside what document 01 says,
+-- under one statement.
 use Prim.Native.Nat.{ℕ, _+_, _^_}
 use mathlib.Core.Bool.{Bool, true, false}
 use mathlib.Core.List.{List, [], _∷_, _++_}
 use mathlib.Core.Path.{_≡_, refl}
 use lib.IntN.{pos}
-use lib.Ieee.{Float, inf, fin, binary32, binary64, ofBits, ofInt, toUnsigned, add, lt, le, eq, div}
+use lib.Ieee.{Float, inf, fin, binary64, ofBits, ofInt, toUnsigned, add, lt, le, eq, div}
 use Rattle.numbers.specs.Finite.{isFinite}
 use Rattle.numbers.specs.Fraction.{reached}
 use Rattle.numbers.specs.Round.{roundAway}
@@ -18,13 +19,13 @@ use Rattle.machine.specs.declared.dist.DistType.the-variants.{Outside}
 use Rattle.machine.specs.declared.dist.Dist.{Dist}
 use Rattle.machine.specs.declared.dist.WholeDrawn.{WholeDrawn}
 use Rattle.machine.specs.declared.state.Next.{Next}
-use Rattle.machine.specs.declared.state.Next.the-variants.{State, Nothing}
+use Rattle.machine.specs.declared.state.Next.the-variants.{State}
 use Rattle.steps.specs.Limits.{belowFraction, belowLimitPadding, belowActionLimits}
 use Rattle.steps.specs.Transition.{Env, env, noAction, enter, applied, updateOne, updateCounter, finish, transitionBy, zeroTransition, transition}
+use Rattle.steps.specs.Framework.{sharedFrom}
 use Rattle.steps.specs.Example.{stateWith, pairFirst, pairCount, f32, f64, half32, one32, half64, one64, two64, five64}
 use Rattle.steps.specs.declared.MachineRuntime.{MachineRuntime}
 use Rattle.steps.specs.declared.Context.{Context}
-use Rattle.steps.specs.declared.Shared.{Shared}
 use Rattle.steps.specs.declared.Stepped.{Stepped}
 use Rattle.steps.specs.declared.Stepped.the-variants.{Refused, Done}
 
@@ -46,7 +47,8 @@ abbrev pub Rows : List (Answer × Answer) → Type 0
 Rows [] = Unit
 Rows (r ∷ rs) = (r .0 ≡ r .1) × Rows rs
 
--- ---- a machine in state 0 with these counts and counters, under a machine fraction of 0.5, no allowance and no framework fraction
+-- ---- a machine in state 0 with these counts and counters, under a machine fraction of 0.5, no
+-- allowance and no framework fraction
 abbrev runtimeOf : (limit padding normal a b : ℕ) → MachineRuntime
 runtimeOf limit padding normal a b = record {
   «current_state» = 0;
@@ -88,7 +90,8 @@ outside start max = record { dist = Outside; start = start; max = max }
 abbrev drawsOutside : List ℕ
 drawsOutside = stateWith ((action, sendPadding) ∷ (timeout, 2) ∷ (counterA, 3) ∷ (counterA + 2, 2) ∷ [])
 
--- ---- NormalSent leads from state 0 to state 1 and CounterZero from there to state 2; `words` are state 1's counters
+-- ---- NormalSent leads from state 0 to state 1 and CounterZero from there to state 2; `words` are
+-- state 1's counters
 abbrev counting : List (ℕ × ℕ) → Env
 counting words =
     env
@@ -96,11 +99,8 @@ counting words =
     ++ stateWith ((pairFirst counterZero, 1) ∷ (pairCount counterZero, 1) ∷ words) ++ stateWith [])
     (1 ∷ one32 ∷ 2 ∷ one32 ∷ []) (f32 half32 ∷ f32 half32 ∷ []) [] (underHalf 0 0)
 
-abbrev fresh : Shared
-fresh = record { «signal_pending» = 0; «counter_a_zeroed» = false; «counter_b_zeroed» = false; «chance_at» = 0; «value_at» = 0 }
-
 abbrev afterNormalSent : List (ℕ × ℕ) → (a b : ℕ) → Answer
-afterNormalSent words a b = machineOf (transition (counting words) normalSent (runtimeOf 0 0 0 a b) fresh noAction)
+afterNormalSent words a b = machineOf (transition (counting words) normalSent (runtimeOf 0 0 0 a b) (sharedFrom 0) noAction)
 
 abbrev pub table : List (Answer × Answer)
 table =
@@ -114,8 +114,8 @@ table =
     -- 2^53 + 1 as f64 is 2^53; 2^53 + 3 is 2^53 + 4, which is (2^51 + 1) * 2^2
     (float (ofInt binary64 (pos (2 ^ 53 + 1))), float (fin false 1 (pos 53))) ∷
     (float (ofInt binary64 (pos (2 ^ 53 + 3))), float (fin false (2 ^ 51 + 1) (pos 2))) ∷
-    -- machine fraction 0.5, allowance 0, state limit 1 and no framework fraction, with 1 padding of 2 stops, 1 of 3 passes; 0 of 0
-    -- with state limit 0 passes
+    -- machine fraction 0.5, allowance 0, state limit 1 and no framework fraction, with 1 padding of 2
+    -- stops, 1 of 3 passes; 0 of 0 with state limit 0 passes
     (passes 1 1 1, test false) ∷
     (passes 1 1 2, test true) ∷
     (passes 0 0 0, test true) ∷
@@ -128,5 +128,9 @@ table =
     []
 
 pub table-holds : Rows table
-unfolding sampleTimeout sampleLimit hasLimit sampleValue sample distSample distAt distType uniformDraw outsideDraw adjusted orZero capped isFinite roundAway toUnsigned ofBits ofInt add lt le eq div reached belowFraction belowLimitPadding belowActionLimits rowsOf chanceDraw walk sampleState enter applied updateOne updateCounter finish transitionBy zeroTransition
+unfolding
+    sampleTimeout sampleLimit hasLimit sampleValue sample distSample distAt distType uniformDraw
+    outsideDraw adjusted orZero capped isFinite roundAway toUnsigned ofBits ofInt add lt le eq div
+    reached belowFraction belowLimitPadding belowActionLimits rowsOf chanceDraw walk sampleState enter
+    applied updateOne updateCounter finish transitionBy zeroTransition
 table-holds = (refl, (refl, (refl, (refl, (refl, (refl, (refl, (refl, (refl, (refl, (refl, (refl, (refl, tt)))))))))))))

@@ -1,33 +1,30 @@
--- Document 01's printed run comes out of the definitions: the opening is accepted, and the batch writes the row of the printed
--- example. "One machine, one state, all four fractions 0, SendPadding with timeout Uniform 10 to 10 (start and max 0), no limit or
--- counter, NormalSent to state 0 with probability 1, draw 0.25, one NormalSent at time 5."
+-- Document 01's printed run comes out of the definitions: the opening is accepted, and the batch writes
+-- the row of the printed example. "One machine, one state, all four fractions 0, SendPadding with
+-- timeout Uniform 10 to 10 (start and max 0), no limit or counter, NormalSent to state 0 with
+-- probability 1, draw 0.25, one NormalSent at time 5."
 use Prim.Native.Nat.{ℕ, _+_}
-use mathlib.Core.Bool.{Bool, true, false}
-use mathlib.Core.List.{List, [], _∷_, _++_}
+use mathlib.Core.List.{[], _∷_}
 use mathlib.Core.Path.{_≡_, refl}
 use lib.ListN.{replicate}
-use lib.Ieee.{Float, binary32, binary64, ofBits, toUnsigned, add, sub, lt, le, eq}
+use lib.Ieee.{ofBits, add, sub, lt, le, eq}
 use Rattle.numbers.specs.Finite.{isFinite}
-use Rattle.numbers.specs.Fraction.{reached}
 use Rattle.numbers.specs.Round.{roundAway}
 use Rattle.machine.specs.Constants.{action, timeout, sendPadding, stateLimitMax}
 use Rattle.machine.specs.Event.{eventOf, normalSent}
-use Rattle.machine.specs.Dist.{zeroF, distType, distAt, validUniform, validate, uniformDraw, outsideDraw, distSample, orZero, capped, adjusted, sample}
+use Rattle.machine.specs.Dist.{zeroF, distType, distAt, validUniform, validate, uniformDraw, distSample, orZero, capped, adjusted, sample}
 use Rattle.machine.specs.Action.{sampleTimeout, sampleDuration, sampleLimit, hasLimit}
 use Rattle.machine.specs.State.{rowsOf, chanceDraw, walk, sampleState}
 use Rattle.tables.specs.First.{orElse, firstRefusal}
-use Rattle.tables.specs.State.{seenIn, transitionRefusal, sumFrom, rowRefusal, pairRefusal, actionUnknown, counterUnknown, actionInvalid, counterInvalid, fieldsRefusal, stateRefusal}
-use Rattle.tables.specs.Machine.{statesRefusal, machineRefusal, tablesRefusal}
-use Rattle.tables.specs.Framework.{fractionsRefusal}
+use Rattle.tables.specs.State.{eventsRefusal, pairRefusal, rowRefusal, sumRefusal, transitionRefusal, isTarget, improbable, seenIn, sumFrom, codesUnknown, actionUnknown, commonUnknown, neededUnknown, counterUnknown, distsInvalid, actionInvalid, counterInvalid, invalid, stateRefusal}
+use Rattle.tables.specs.Machine.{beyondFraction, eachState, statesRefusal, machineRefusal, wholeTables, tablesRefusal}
+use Rattle.tables.specs.Framework.{isFraction, fractionsRefusal}
 use Rattle.steps.specs.Limits.{belowFraction, belowLimitPadding, belowActionLimits}
-use Rattle.steps.specs.Transition.{enter, raise, scheduleAction, applied, updateOne, updateCounter, finish, transitionBy, zeroTransition, decrementLimit}
-use Rattle.steps.specs.Events.{Tables, Tapes, each, noRuntime, countedBy, blockedFor, accounted, turn, machineTurn, processEvent, signalMachine, signals}
+use Rattle.steps.specs.Transition.{enter, scheduleAction, updateOne, updateCounter, finish, transitionBy}
+use Rattle.steps.specs.Events.{Tables, Tapes, each, noRuntime, countedBy, blockedFor, accounted, turn, machineTurn, processEvent, signals}
 use Rattle.steps.specs.Framework.{startLimit, openTurn, opening, statesFit, fitsTables, kindsFit, eventsFit, batchRefusal, triggerEvents, actionRows, Batch, batch}
 use Rattle.steps.specs.Example.{stateWith, pairFirst, pairCount, quarter32, one32, ten64, f32}
-use Rattle.steps.specs.declared.MachineRuntime.{MachineRuntime}
 use Rattle.steps.specs.declared.Framework.{Framework}
 use Rattle.steps.specs.declared.Opened.{Opened}
-use Rattle.steps.specs.declared.Answer.{Answer}
 
 abbrev tables : Tables
 tables = record {
@@ -79,10 +76,26 @@ answered = record {
 
 pub opens : opening tables zeroF zeroF 0 [] ≡ accepted
 unfolding
-    opening fractionsRefusal
-    validUniform tablesRefusal orElse firstRefusal machineRefusal statesRefusal stateRefusal pairRefusal rowRefusal transitionRefusal seenIn sumFrom fieldsRefusal actionUnknown counterUnknown actionInvalid counterInvalid validate distAt distType isFinite rowsOf openTurn startLimit sampleLimit hasLimit each ofBits lt le add sub
+    opening fractionsRefusal isFraction validUniform tablesRefusal orElse firstRefusal wholeTables
+    machineRefusal beyondFraction statesRefusal eachState stateRefusal eventsRefusal pairRefusal
+    rowRefusal sumRefusal transitionRefusal isTarget improbable seenIn sumFrom codesUnknown
+    actionUnknown commonUnknown neededUnknown counterUnknown distsInvalid actionInvalid counterInvalid
+    invalid validate distAt distType isFinite rowsOf openTurn startLimit sampleLimit hasLimit each
+    ofBits lt le add sub
 opens = refl
 
-pub runs : batch (after 0 0) tables 5 (normalSent ∷ 0 ∷ []) (record { chances = f32 quarter32 ∷ []; values = [] }) (replicate 7 9) ≡ answered
-unfolding validUniform batch batchRefusal fitsTables statesFit eventsFit kindsFit tablesRefusal orElse firstRefusal machineRefusal statesRefusal stateRefusal pairRefusal rowRefusal transitionRefusal seenIn sumFrom fieldsRefusal actionUnknown counterUnknown actionInvalid counterInvalid validate distAt distType isFinite rowsOf each ofBits lt le add sub triggerEvents processEvent accounted blockedFor machineTurn turn countedBy eventOf transitionBy chanceDraw sampleState walk enter updateCounter updateOne belowActionLimits belowLimitPadding belowFraction finish scheduleAction sampleTimeout sampleDuration sample distSample uniformDraw eq adjusted capped orZero roundAway signals actionRows
+abbrev tapes : Tapes
+tapes = record { chances = f32 quarter32 ∷ []; values = [] }
+
+pub runs : batch (after 0 0) tables 5 (normalSent ∷ 0 ∷ []) tapes (replicate 7 9) ≡ answered
+unfolding
+    validUniform batch batchRefusal fitsTables statesFit eventsFit kindsFit tablesRefusal orElse
+    firstRefusal wholeTables machineRefusal beyondFraction statesRefusal eachState stateRefusal
+    eventsRefusal pairRefusal rowRefusal sumRefusal transitionRefusal isTarget improbable seenIn
+    sumFrom codesUnknown actionUnknown commonUnknown neededUnknown counterUnknown distsInvalid
+    actionInvalid counterInvalid invalid validate distAt distType isFinite rowsOf each ofBits lt le add
+    sub triggerEvents processEvent accounted blockedFor machineTurn turn countedBy eventOf transitionBy
+    chanceDraw sampleState walk enter updateCounter updateOne belowActionLimits belowLimitPadding
+    belowFraction finish scheduleAction sampleTimeout sampleDuration sample distSample uniformDraw eq
+    adjusted capped orZero roundAway signals actionRows
 runs = refl

@@ -1,21 +1,23 @@
--- What a passed check of below_limit_padding says of exact numbers: by monotone rounding the test of an f64 quotient is an inequality
--- of whole numbers. So the checks are what the invariant asks of them. Assumes nothing.
-use Prim.Native.Nat.{ℕ, zero, suc, _+_, _*_, _-_, _^_, _≤_, _<_, min}
+-- What a passed check of below_limit_padding says of exact numbers: by monotone rounding the test of an
+-- f64 quotient is an inequality of whole numbers. So the checks are what the invariant asks of them.
+-- Assumes nothing.
+use Prim.Native.Nat.{ℕ, _+_, _*_, _^_, _≤_, _<_}
 use native.Mathlib.Nat.{le-trans, le-of-lt}
+use native.Mathlib.Decide.{ℕ-discrete, decLt}
 use native.Mathlib.Omega.{arith}
-use mathlib.Core.Bool.{Bool, true, false, cond, _&&_, false≢true}
+use mathlib.Core.Bool.{Bool, true, false, cond, false≢true}
 use mathlib.Core.Logic.{_⊎_, inl, inr}
 use mathlib.Core.Path.{_≡_, refl, sym, ap, _∙_, subst}
-use lib.Dec.{T, ltb, eqb}
-use lib.Ieee.{Float, inf, binary64, ofBits, lt, fits}
+use lib.Dec.{T}
+use lib.Ieee.{Float, binary64, ofBits, lt, fits}
 use lib.Ieee.Bits.{ofBits-fits}
 use lib.Ieee.Positive.{positive}
-use borrow.Author.Tests.{ltb-true, eqb-true, eqb-false}
+use borrow.Author.Tests.{ne-eqb, le-ltb}
 use Rattle.numbers.specs.Fraction.{reached, in1074}
-use Rattle.numbers.specs.Fraction.Units.{units-positive, positive-is}
-use Rattle.numbers.specs.Fraction.Exact.{passed-is-below}
+use Rattle.numbers.specs.Fraction.Laws.{units-positive, passed-is-below}
+use Rattle.numbers.specs.Positive.{positive-above}
 use Rattle.numbers.specs.Saturating.{saturatingAdd}
-use Rattle.machine.specs.Constants.{maxPaddingFrac}
+use Rattle.machine.specs.Constants.{machineMax, maxPaddingFrac}
 use Rattle.machine.specs.Dist.{zeroF}
 use Rattle.steps.specs.Limits.{limitLeft, belowFraction, belowLimitPadding}
 use Rattle.steps.specs.Events.{Tables, machineWord}
@@ -25,131 +27,183 @@ use Rattle.steps.specs.Budget.Invariant.{Checks}
 use Rattle.steps.specs.declared.MachineRuntime.{MachineRuntime}
 use Rattle.steps.specs.declared.Context.{Context}
 
--- totals of at most 2 ^ 53 packets do not saturate
+-- ---- One fraction, at p padding beside n normal packets. Totals of at most 2 ^ 53 packets do not
+-- saturate.
 uncapped : (p n : ℕ) → p + n ≤ 2 ^ 53 → saturatingAdd n p ≡ p + n
 uncapped p n h = omega arith
 
--- ---- one fraction
-abbrev Open : Float → ℕ → ℕ → Bool → Type 0
-Open f p n rest = (p + n ≡ 0) ⊎ ((p * 2 ^ 1074 < in1074 f * (p + n)) × (rest ≡ true))
+module _ (f : Float) (p n : ℕ) (small : p + n ≤ 2 ^ 53) (some : p + n ≡ 0 → ⊥) where
+  -- reaching the fraction stops
+  reaching-stops : (rest : Bool) → lt zeroF f ≡ true → reached p (p + n) f ≡ true
+      → belowFraction f p n rest ≡ false
+  unfolding belowFraction
+  reaching-stops rest on e =
+      rw (on, uncapped p n small, ne-eqb (p + n) 0 some) (ap (λ (b : Bool). cond b false rest) e)
 
--- of a fraction above 0: nothing was sent, or p of p + n is below it exactly
-fraction-on : (f : Float) (p n : ℕ) (rest : Bool) → T (fits binary64 f) → 0 < in1074 f → p + n ≤ 2 ^ 53
-    → belowFraction f p n rest ≡ true → Open f p n rest
-unfolding belowFraction ofBits
-fraction-on f p n rest k h small t = total (eqb (p + n) 0) refl (sym inside ∙ t)
-  where
-    pos : T (positive f)
-    pos = units-positive binary64 f h
+  -- and so does what follows it
+  rest-stops : (rest : Bool) → rest ≡ false → belowFraction f p n rest ≡ false
+  unfolding belowFraction
+  rest-stops rest e =
+      rw (e, uncapped p n small, ne-eqb (p + n) 0 some) (go (lt zeroF f) (reached p (p + n) f))
+    where
+      go : (a b : Bool) → cond a (cond b false false) false ≡ false
+      go true true = refl
+      go true false = refl
+      go false b = refl
 
-    first : (a b : Bool) → T (a && b) → a ≡ true
-    first true b t = refl
-    first false b t = absurd t
+  -- where a fraction above 0 does not stop, the quotient is below it exactly
+  below-exactly : T (fits binary64 f) → 0 < in1074 f
+      → (((rest : Bool) → belowFraction f p n rest ≡ false) → ⊥)
+      → p * 2 ^ 1074 < in1074 f * (p + n)
+  below-exactly k h passes = go (reached p (p + n) f) refl
+    where
+      pos : T (positive f)
+      pos = units-positive f h
 
-    on : lt zeroF f ≡ true
-    on = first (lt zeroF f) (lt f (inf false)) (subst T (positive-is f) pos)
+      above : (a : ℕ) → (a ≡ 0 → ⊥) → 0 < a
+      above a z = omega arith
 
-    tested : ℕ → Bool
-    tested total = cond (eqb total 0) true (cond (reached p total f) false rest)
+      more : (a b : ℕ) → a ≤ a + b
+      more a b = omega arith
 
-    inside : cond (lt zeroF f) (tested (saturatingAdd n p)) rest ≡ tested (p + n)
-    inside = ap (λ (a : Bool). cond a (tested (saturatingAdd n p)) rest) on ∙ ap tested (uncapped p n small)
+      go : (b : Bool) → reached p (p + n) f ≡ b → p * 2 ^ 1074 < in1074 f * (p + n)
+      go true e =
+          absurd (passes (λ rest. reaching-stops rest (unfold ofBits in positive-above f pos) e))
+      go false e =
+          passed-is-below f p (p + n) k pos (le-trans (more p n) small) small (above (p + n) some) e
 
-    more : (a b : ℕ) → a ≤ a + b
-    more a b = omega arith
+-- ---- below_limit_padding, beyond the allowance and with some packets sent: the machine's fraction and
+-- the framework's both stop
+abbrev total : MachineRuntime → ℕ
+total r = r .«padding_sent» + r .«normal_sent»
 
-    above : (a : ℕ) → (a ≡ 0 → ⊥) → 0 < a
-    above a z = omega arith
+module _ (c : Context) (r : MachineRuntime)
+    (over : r .«padding_sent» < c .«allowed_padding_packets» → ⊥) where
+  own-stops : ((rest : Bool) → belowFraction (c .«machine_padding_frac») (r .«padding_sent») (r .«normal_sent») rest ≡ false)
+      → belowLimitPadding c r ≡ false
+  unfolding belowLimitPadding
+  own-stops e = rw (le-ltb (r .«padding_sent») (c .«allowed_padding_packets») (omega arith), e _)
 
-    stops : (r : Bool) → reached p (p + n) f ≡ r → (p + n ≡ 0 → ⊥) → cond r false rest ≡ true → Open f p n rest
-    stops true e z u = absurd (false≢true u)
-    stops false e z u =
-        inr (passed-is-below binary64 f p (p + n) k pos (le-trans (more p n) small) small (above (p + n) z) (unfold reached in e), u)
+  all-stops : total r ≤ 2 ^ 53 → (total r ≡ 0 → ⊥)
+      → ((rest : Bool) → belowFraction (c .«max_padding_frac») (c .«padding_sent_packets»)
+      (c .«normal_sent_packets») rest ≡ false)
+      → belowLimitPadding c r ≡ false
+  unfolding belowLimitPadding
+  all-stops small some e =
+      rw (le-ltb (r .«padding_sent») (c .«allowed_padding_packets») (omega arith))
+      (rest-stops (c .«machine_padding_frac») (r .«padding_sent») (r .«normal_sent») small some _
+      (e (limitLeft r)))
 
-    total : (b : Bool) → eqb (p + n) 0 ≡ b → cond b true (cond (reached p (p + n) f) false rest) ≡ true → Open f p n rest
-    total true e u = inl (eqb-true (p + n) 0 e)
-    total false e u = stops (reached p (p + n) f) refl (eqb-false (p + n) 0 e) u
+-- ---- the numbers that a check reads, and what a passed check says of them
+pub record Numbers : Type 0 where
+  pub allowed : ℕ
+  pub f : Float
+  pub F : Float
+  pub own : ℕ
+  pub heard : ℕ
+  pub padding : ℕ
+  pub normal : ℕ
 
--- of any fraction: nothing was sent, or what follows passed
-fraction-any : (f : Float) (p n : ℕ) (rest : Bool) → p + n ≤ 2 ^ 53 → belowFraction f p n rest ≡ true → (p + n ≡ 0) ⊎ (rest ≡ true)
-unfolding belowFraction
-fraction-any f p n rest small t =
-    go (lt zeroF f) (eqb (saturatingAdd n p) 0) (reached p (saturatingAdd n p) f) (λ e. sym (uncapped p n small) ∙ eqb-true (saturatingAdd n p) 0 e) t
-  where
-    go : (a b r : Bool) → (b ≡ true → p + n ≡ 0) → cond a (cond b true (cond r false rest)) rest ≡ true → (p + n ≡ 0) ⊎ (rest ≡ true)
-    go false b r e t = inr t
-    go true true r e t = inl (e refl)
-    go true false true e t = absurd (false≢true t)
-    go true false false e t = inr t
+abbrev pub numbersOf : Context → MachineRuntime → Numbers
+numbersOf c r = record {
+  allowed = c .«allowed_padding_packets»;
+  f = c .«machine_padding_frac»;
+  F = c .«max_padding_frac»;
+  own = r .«padding_sent»;
+  heard = r .«normal_sent»;
+  padding = c .«padding_sent_packets»;
+  normal = c .«normal_sent_packets»;
+}
 
--- ---- A check of below_limit_padding that passed: with this allowance, under the fraction f and the framework's F, at p padding of the
--- machine's own, n normal packets and s padding of all.
-pub record Passed (allowed : ℕ) (f F : Float) (p n s : ℕ) : Type 0 where
+abbrev pub OwnLaw : Numbers → Type 0
+OwnLaw x =
+    T (fits binary64 (x .f)) → 0 < in1074 (x .f) → x .own + x .heard ≤ 2 ^ 53
+    → (x .own < x .allowed) ⊎ ((x .own + x .heard ≡ 0)
+    ⊎ (x .own * 2 ^ 1074 < in1074 (x .f) * (x .own + x .heard)))
+
+abbrev pub AllLaw : Numbers → Type 0
+AllLaw x =
+    T (fits binary64 (x .F)) → 0 < in1074 (x .F) → x .own ≤ x .padding → x .heard ≡ x .normal
+    → x .padding + x .normal ≤ 2 ^ 53
+    → (x .own < x .allowed) ⊎ ((x .own + x .heard ≡ 0)
+    ⊎ (x .padding * 2 ^ 1074 ≤ in1074 (x .F) * (x .padding + x .normal)))
+
+module _ (c : Context) (r : MachineRuntime) (passed : belowLimitPadding c r ≡ true) where
+  stops : belowLimitPadding c r ≡ false → ⊥
+  stops e = false≢true (sym e ∙ passed)
+
+  pub own-passed : OwnLaw (numbersOf c r)
+  own-passed k h small = elim (decLt (r .«padding_sent») (c .«allowed_padding_packets»)) [
+    | yes a ↦ inl a
+    | no a ↦ inr (elim (ℕ-discrete (total r) 0) [
+      | yes z ↦ inl z
+      | no z ↦ inr (
+          below-exactly (c .«machine_padding_frac») (r .«padding_sent») (r .«normal_sent») small z k h
+          (λ e. stops (own-stops c r a e))
+          )
+    ])
+  ]
+
+  pub all-passed : AllLaw (numbersOf c r)
+  all-passed k h less same small = elim (decLt (r .«padding_sent») (c .«allowed_padding_packets»)) [
+    | yes a ↦ inl a
+    | no a ↦ inr (elim (ℕ-discrete (total r) 0) [
+      | yes z ↦ inl z
+      | no z ↦ inr (le-of-lt (
+          below-exactly (c .«max_padding_frac») (c .«padding_sent_packets») (c .«normal_sent_packets»)
+          small (λ e. z (omega arith)) k h
+          (λ e. stops (all-stops c r a (omega arith) z e))
+          ))
+    ])
+  ]
+
+-- a check of below_limit_padding that passed at these numbers
+pub record Passed (x : Numbers) : Type 0 where
   pub context : Context
   pub runtime : MachineRuntime
-  pub allowance-is : context .«allowed_padding_packets» ≡ allowed
-  pub fraction-is : context .«machine_padding_frac» ≡ f
-  pub all-is : context .«max_padding_frac» ≡ F
-  pub padding-is : context .«padding_sent_packets» ≡ s
-  pub normal-is : context .«normal_sent_packets» ≡ n
-  pub own-is : runtime .«padding_sent» ≡ p
-  pub heard-is : runtime .«normal_sent» ≡ n
+  pub reads : numbersOf context runtime ≡ x
   pub passed : belowLimitPadding context runtime ≡ true
 
-module _ (allowed : ℕ) (f F : Float) (p n s : ℕ) (x : Passed allowed f F p n s) (less : p ≤ s) (small : s + n ≤ 2 ^ 53) where
-  left : Bool
-  left = limitLeft (x .runtime)
+-- ---- what an accepted opening fixes: its tables, of at most 16 machines, and the framework's
+-- fraction, an f64
+pub record Setup : Type 0 where
+  pub tables : Tables
+  pub F : Float
+  pub f64 : T (fits binary64 F)
+  pub few : rowsIn (tables .machines) ≤ machineMax
 
-  -- by the allowance, or by the fractions
-  either : (p < allowed) ⊎ (belowFraction f p n (belowFraction F s n left) ≡ true)
-  unfolding belowLimitPadding left
-  either = go (ltb p allowed) (ltb-true p allowed) (sym whole ∙ x .passed)
-    where
-      whole : belowLimitPadding (x .context) (x .runtime) ≡ cond (ltb p allowed) left (belowFraction f p n (belowFraction F s n left))
-      whole = λ z.
-          cond (ltb (x .own-is z) (x .allowance-is z)) left
-          (belowFraction (x .fraction-is z) (x .own-is z) (x .heard-is z) (belowFraction (x .all-is z) (x .padding-is z) (x .normal-is z) left))
+abbrev pub machinesOf : Setup → ℕ
+machinesOf S = rowsIn (S .tables .machines)
 
-      go : (b : Bool) → (b ≡ true → p < allowed) → cond b left (belowFraction f p n (belowFraction F s n left)) ≡ true
-          → (p < allowed) ⊎ (belowFraction f p n (belowFraction F s n left) ≡ true)
-      go true e t = inl (e refl)
-      go false e t = inr t
+pub fewer : (p n s : ℕ) → p ≤ s → s + n ≤ 2 ^ 53 → p + n ≤ 2 ^ 53
+fewer p n s l h = omega arith
 
-  fewer : p + n ≤ 2 ^ 53
-  fewer = omega (arith, less, small)
+-- what machine i's check reads at p padding of its own, n normal packets and s padding of all
+abbrev pub numbersAt : Setup → ℕ → ℕ → ℕ → ℕ → Numbers
+numbersAt S i p n s = record {
+  allowed = allowance (S .tables) i;
+  f = fraction (S .tables) i;
+  F = S .F;
+  own = p;
+  heard = n;
+  padding = s;
+  normal = n;
+}
 
-  pub own-passed : T (fits binary64 f) → 0 < in1074 f → (p < allowed) ⊎ ((p + n ≡ 0) ⊎ (p * 2 ^ 1074 < in1074 f * (p + n)))
-  own-passed k h = elim either [
-    | inl a ↦ inl a
-    | inr a ↦ elim (fraction-on f p n (belowFraction F s n left) k h fewer a) [ inl z ↦ inr (inl z) | inr z ↦ inr (inr (z .0)) ]
-  ]
-
-  pub all-passed : T (fits binary64 F) → 0 < in1074 F → (p < allowed) ⊎ ((p + n ≡ 0) ⊎ (s * 2 ^ 1074 ≤ in1074 F * (s + n)))
-  all-passed k h = elim either [
-    | inl a ↦ inl a
-    | inr a ↦ elim (fraction-any f p n (belowFraction F s n left) fewer a) [
-      | inl z ↦ inr (inl z)
-      | inr z ↦ elim (fraction-on F s n left k h small z) [ inl y ↦ inr (inl (under p n s less y)) | inr y ↦ inr (inr (le-of-lt (y .0))) ]
-    ]
-  ]
-    where
-      under : (p n s : ℕ) → p ≤ s → s + n ≡ 0 → p + n ≡ 0
-      under p n s l z = omega arith
-
--- ---- the checks of the tables' machines, under the framework's fraction
-abbrev pub PassedAt : Tables → Float → ℕ → ℕ → ℕ → ℕ → Type 0
-PassedAt tables F i p n s = Passed (allowance tables i) (fraction tables i) F p n s
-
-abbrev pub checks : (tables : Tables) (F : Float) → T (fits binary64 F) → Checks
-checks tables F k = record {
+abbrev pub checks : Setup → Checks
+checks S = record {
   U = 2 ^ 1074;
   cap = 2 ^ 53;
-  M = rowsIn (tables .machines);
-  G = in1074 F;
-  A = allowance tables;
-  g = λ i. in1074 (fraction tables i);
-  Pass = PassedAt tables F;
+  M = machinesOf S;
+  G = in1074 (S .F);
+  A = allowance (S .tables);
+  g = λ i. in1074 (fraction (S .tables) i);
+  Pass = λ i p n s. Passed (numbersAt S i p n s);
   own-law = λ i p n s m h l small x.
-      own-passed (allowance tables i) (fraction tables i) F p n s x l small (ofBits-fits binary64 (machineWord (tables .machines) i maxPaddingFrac)) h;
-  all-law = λ i p n s m h l small x. all-passed (allowance tables i) (fraction tables i) F p n s x l small k h;
+      subst OwnLaw (x .reads) (own-passed (x .context) (x .runtime) (x .passed))
+      (ofBits-fits binary64 (machineWord (S .tables .machines) i maxPaddingFrac)) h
+      (fewer p n s l small);
+  all-law = λ i p n s m h l small x.
+      subst AllLaw (x .reads) (all-passed (x .context) (x .runtime) (x .passed)) (S .f64) h l refl
+      small;
 }

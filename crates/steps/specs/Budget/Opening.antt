@@ -1,24 +1,23 @@
--- What an accepted opening says: of the tables (at most 16 machines, no fraction above 1), of the framework's fraction, and of the
--- framework, which counts nothing yet. Assumes nothing.
-use Prim.Native.Nat.{ℕ, zero, suc, _+_, _*_, _/_, _%_, _≤_, _<_}
+-- What an accepted opening says: of the tables (at most 16 machines, no fraction above 1), of the
+-- framework's fraction, and of the framework, which counts nothing yet. Assumes nothing.
+use Prim.Native.Nat.{ℕ, zero, suc, _+_, _*_, _%_, _≤_, _<_}
 use native.Mathlib.Nat.{lt-irrefl, add-zero}
 use native.Mathlib.Omega.{arith}
-use mathlib.Core.Bool.{Bool, true, false, cond, _&&_, _||_, true≢false, false≢true}
+use mathlib.Core.Bool.{Bool, true, false, cond, _&&_, _||_, false≢true}
 use mathlib.Core.List.{List, [], _∷_}
 use mathlib.Core.Path.{_≡_, refl, sym, ap, _∙_, subst}
-use lib.IntN.{pos}
 use lib.Dec.{T, eqb, leb, leb→le, lit<}
 use lib.ListN.{length, getD, set, take, drop, replicate, length-set, length-replicate}
 use lib.Seq.{getD-take, getD-drop}
 use lib.Ieee.{Float, nan, inf, fin, binary64, ofBits, fits, lt, le}
 use lib.Ieee.Bits.{ofBits-fits}
-use lib.Ieee.Fits.{and-l, and-r}
+use lib.Ieee.Fits.{and-r}
 use lib.Ieee.Positive.{positive}
-use lib.Ieee.Scale.{finite}
 use borrow.Author.Tests.{eqb-true, eqb-false}
 use Rattle.numbers.specs.Fraction.{in1074}
-use Rattle.numbers.specs.Fraction.Units.{positive-units, above-zero, limit-positive}
-use Rattle.machine.specs.Constants.{machineMax, machineWords, stateWords, transitionWords, maxPaddingFrac, maxBlockingFrac, allowedBlockedMicrosec}
+use Rattle.numbers.specs.Fraction.Laws.{positive-units}
+use Rattle.numbers.specs.Positive.{positive-is, limit-positive}
+use Rattle.machine.specs.Constants.{machineMax, machineWords, stateWords, transitionWords, maxPaddingFrac}
 use Rattle.machine.specs.Dist.{zeroF, f64At}
 use Rattle.machine.specs.Action.{actionOf}
 use Rattle.machine.specs.State.{rowsOf, stateRow}
@@ -27,14 +26,14 @@ use Rattle.machine.specs.declared.dist.WholeDrawn.the-variants.{NoWhole, GotWho
 use Rattle.tables.specs.First.{orElse, firstRefusal}
 use Rattle.tables.specs.Framework.{isFraction, fractionsRefusal}
 use Rattle.tables.specs.Machine.{beyondFraction, machineRefusal, wholeTables, tablesRefusal}
-use Rattle.steps.specs.Events.{Tables, Run, Outcome, stop, go, each, noRuntime, runtimeAt, machineWord, statesOf}
-use Rattle.steps.specs.Framework.{rowsIn, newRuntime, startLimit, opened, openTurn, openRun, openedBy, opening}
-use Rattle.steps.specs.Budget.{empty, fraction}
+use Rattle.steps.specs.Events.{Tables, Run, Outcome, stop, go, noRuntime, runtimeAt, machineWord, statesOf}
+use Rattle.steps.specs.Framework.{rowsIn, startLimit, opened, openTurn, openRun, openedBy, opening}
+use Rattle.steps.specs.Budget.{empty}
 use Rattle.steps.specs.Budget.Invariant.{inv-open}
-use Rattle.steps.specs.Budget.Check.{checks}
+use Rattle.steps.specs.Budget.Check.{Setup, machinesOf, checks}
 use Rattle.steps.specs.Budget.Draws.{either, WholeOk, limit-ok}
 use Rattle.steps.specs.Budget.Machine.{Has}
-use Rattle.steps.specs.Budget.Turns.{Ok, each-ok, Frame}
+use Rattle.steps.specs.Budget.Runs.{Ok, each-ok, Frame}
 use Rattle.steps.specs.Budget.Batches.{Rest}
 use Rattle.steps.specs.declared.MachineRuntime.{MachineRuntime}
 
@@ -55,13 +54,14 @@ none-from f zero i h j l = absurd (below l)
     below l = omega arith
 none-from f (suc k) i h zero l = ap f (add-zero i) ∙ none-of (f i) (firstRefusal f k (i + 1)) h .0
 none-from f (suc k) i h (suc j) l =
-    ap f (next i j) ∙ none-from f k (i + 1) (none-of (f i) (firstRefusal f k (i + 1)) h .1) j (omega arith)
+    ap f (next i j) ∙ none-from f k (i + 1) (none-of (f i) (firstRefusal f k (i + 1)) h .1) j
+    (omega arith)
   where
     next : (i j : ℕ) → i + suc j ≡ i + 1 + j
     next i j = omega arith
 
-zero-one : (n : ℕ) → suc n ≡ 0 → ⊥
-zero-one n e = omega arith
+not-zero : (n : ℕ) → suc n ≡ 0 → ⊥
+not-zero n e = omega arith
 
 -- ---- the tables of an accepted opening
 module _ (machines states ts : List ℕ) (ok : tablesRefusal machines states ts ≡ 0) where
@@ -72,22 +72,27 @@ module _ (machines states ts : List ℕ) (ok : tablesRefusal machines states ts 
   unfolding tablesRefusal refusalOf
   parts = by (wholeTables machines states ts) ok
     where
-      by : (b : Bool) → cond b (firstRefusal refusalOf (rowsIn machines) 0) 3 ≡ 0 → T b × (firstRefusal refusalOf (rowsIn machines) 0 ≡ 0)
+      by : (b : Bool) → cond b (firstRefusal refusalOf (rowsIn machines) 0) 3 ≡ 0
+          → T b × (firstRefusal refusalOf (rowsIn machines) 0 ≡ 0)
       by true h = (tt, h)
-      by false h = absurd (zero-one 2 h)
+      by false h = absurd (not-zero 2 h)
 
   pub at-most-16 : rowsIn machines ≤ machineMax
+  unfolding wholeTables
   at-most-16 =
       leb→le (rowsIn machines) machineMax
-      (and-r (eqb (length machines % machineWords) 0 && eqb (length states % stateWords) 0 && eqb (length ts % transitionWords) 0)
+      (and-r (eqb (length machines % machineWords) 0
+      && eqb (length states % stateWords) 0 && eqb (length ts % transitionWords) 0)
       (leb (rowsIn machines) machineMax) (parts .0))
 
   -- a machine's fraction is not above 1
-  not-above-1 : (i : ℕ) → i < rowsIn machines → lt (ofBits binary64 0x3ff0_0000_0000_0000) (ofBits binary64 (machineWord machines i maxPaddingFrac)) ≡ false
-  unfolding machineRefusal refusalOf rowsOf
+  not-above-1 : (i : ℕ) → i < rowsIn machines
+      → lt (ofBits binary64 0x3ff0_0000_0000_0000) (ofBits binary64 (machineWord machines i maxPaddingFrac)) ≡ false
+  unfolding machineRefusal beyondFraction refusalOf rowsOf
   not-above-1 i h =
       ap (λ (w : ℕ). lt (ofBits binary64 0x3ff0_0000_0000_0000) (ofBits binary64 w)) (sym word)
-      ∙ by (lt (f64At row maxPaddingFrac) (ofBits binary64 0)) (lt (ofBits binary64 0x3ff0_0000_0000_0000) (f64At row maxPaddingFrac)) _
+      ∙ by (lt (f64At row maxPaddingFrac) (ofBits binary64 0))
+      (lt (ofBits binary64 0x3ff0_0000_0000_0000) (f64At row maxPaddingFrac)) _
       (ap refusalOf (zero-plus i) ∙ none-from refusalOf (rowsIn machines) 0 (parts .1) i h)
     where
       row : List ℕ
@@ -97,38 +102,46 @@ module _ (machines states ts : List ℕ) (ok : tablesRefusal machines states ts 
       zero-plus i = omega arith
 
       word : getD row maxPaddingFrac 0 ≡ machineWord machines i maxPaddingFrac
-      word = getD-take (1 * machineWords) (drop (i * machineWords) machines) maxPaddingFrac 0 (lit< tt) ∙ getD-drop (i * machineWords) machines maxPaddingFrac 0
+      word =
+          getD-take (1 * machineWords) (drop (i * machineWords) machines) maxPaddingFrac 0 (lit< tt)
+          ∙ getD-drop (i * machineWords) machines maxPaddingFrac 0
 
       by : (a b : Bool) (n : ℕ) → cond (a || b) 4 n ≡ 0 → b ≡ false
       by a false n h = refl
-      by true true n h = absurd (zero-one 3 h)
-      by false true n h = absurd (zero-one 3 h)
+      by true true n h = absurd (not-zero 3 h)
+      by false true n h = absurd (not-zero 3 h)
 
-  pub machine-units : (i : ℕ) → i < rowsIn machines → lt zeroF (ofBits binary64 (machineWord machines i maxPaddingFrac)) ≡ true
+  pub machine-units : (i : ℕ) → i < rowsIn machines
+      → lt zeroF (ofBits binary64 (machineWord machines i maxPaddingFrac)) ≡ true
       → 0 < in1074 (ofBits binary64 (machineWord machines i maxPaddingFrac))
   unfolding ofBits
   machine-units i h above =
-      positive-units binary64 (ofBits binary64 (machineWord machines i maxPaddingFrac)) (ofBits-fits binary64 (machineWord machines i maxPaddingFrac))
+      positive-units (ofBits binary64 (machineWord machines i maxPaddingFrac))
+      (ofBits-fits binary64 (machineWord machines i maxPaddingFrac))
       (limit-positive (ofBits binary64 (machineWord machines i maxPaddingFrac)) above (not-above-1 i h))
 
 -- ---- the framework's fraction
-fraction-finite : (x : Float) → lt zeroF x ≡ true → T (le x (ofBits binary64 0x3ff0_0000_0000_0000)) → T (finite x)
+fraction-positive : (x : Float) → lt zeroF x ≡ true → T (le x (ofBits binary64 0x3ff0_0000_0000_0000))
+    → T (positive x)
 unfolding lt le ofBits
-fraction-finite nan a b = absurd b
-fraction-finite (inf true) a b = absurd (false≢true a)
-fraction-finite (inf false) a b = absurd b
-fraction-finite (fin s m e) a b = tt
+fraction-positive nan a b = absurd b
+fraction-positive (inf true) a b = absurd (false≢true a)
+fraction-positive (inf false) a b = absurd b
+fraction-positive (fin s m e) a b =
+    subst T (sym (positive-is (fin s m e) ∙ ap (λ (c : Bool). c && true) a)) tt
 
-pub framework-units : (F blocking : Float) → T (fits binary64 F) → fractionsRefusal F blocking ≡ 0 → lt zeroF F ≡ true → 0 < in1074 F
-unfolding fractionsRefusal ofBits
+pub framework-units : (F blocking : Float) → T (fits binary64 F) → fractionsRefusal F blocking ≡ 0
+    → lt zeroF F ≡ true → 0 < in1074 F
+unfolding fractionsRefusal isFraction
 framework-units F blocking k ok above =
-    positive-units binary64 F k
-    (above-zero F (fraction-finite F above (and-r (le zeroF F) (le F (ofBits binary64 0x3ff0_0000_0000_0000)) (by (isFraction F) (isFraction blocking) ok)))
-    (subst T (sym above) tt))
+    positive-units F k
+    (fraction-positive F above
+    (and-r (le zeroF F) (le F (ofBits binary64 0x3ff0_0000_0000_0000))
+    (by (isFraction F) (isFraction blocking) ok)))
   where
     by : (a b : Bool) → cond {A = ℕ} a (cond b 0 2) 1 ≡ 0 → T a
     by true b h = tt
-    by false b h = absurd (zero-one 0 h)
+    by false b h = absurd (not-zero 0 h)
 
 -- ---- the framework of an accepted opening
 set-all : (P : MachineRuntime → Type 0) (l : List MachineRuntime) (i : ℕ) (a d : MachineRuntime) → P a
@@ -148,60 +161,84 @@ start-ok : (row : List ℕ) (values : List Float) (at : ℕ) → WholeOk (startL
 unfolding startLimit
 start-ok row values at = either WholeOk (eqb (actionOf row) 0) _ _ tt (limit-ok row values at)
 
-module _ (tables : Tables) (F blocking : Float) (time : ℕ) (values : List Float) where
-  -- the checks passed, and the run of the limits' draws went to its end
-  pub passed : opening tables F blocking time values .refusal ≡ 0
-      → (fractionsRefusal F blocking ≡ 0) × (tablesRefusal (tables .machines) (tables .states) (tables .transitions) ≡ 0)
-  unfolding opening
-  passed ok = none-of (fractionsRefusal F blocking) (tablesRefusal (tables .machines) (tables .states) (tables .transitions)) (by (eqb n 0) (eqb-true n 0) ok)
+-- the checks passed
+pub passed : (tables : Tables) (F blocking : Float) (time : ℕ) (values : List Float)
+    → opening tables F blocking time values .refusal ≡ 0
+    → (fractionsRefusal F blocking ≡ 0)
+    × (tablesRefusal (tables .machines) (tables .states) (tables .transitions) ≡ 0)
+unfolding opening
+passed tables F blocking time values ok =
+    none-of (fractionsRefusal F blocking)
+    (tablesRefusal (tables .machines) (tables .states) (tables .transitions))
+    (by (eqb n 0) (eqb-true n 0) ok)
+  where
+    n : ℕ
+    n =
+        orElse (fractionsRefusal F blocking)
+        (tablesRefusal (tables .machines) (tables .states) (tables .transitions))
+
+    by : (b : Bool) → (b ≡ true → n ≡ 0)
+        → cond b (openedBy (openRun tables F blocking time values)) (openedBy (stop n)) .refusal ≡ 0
+        → n ≡ 0
+    by true e h = e refl
+    by false e h = h
+
+-- and the run that draws the limits went to its end
+module _ (S : Setup) (blocking : Float) (time : ℕ) (values : List Float) where
+  open Setup S using (tables, F)
+
+  Counts : Run → Type 0
+  Counts x = Frame S empty (x .framework) × ((i : ℕ) → Has 0 0 (runtimeAt (x .framework) i))
+
+  run-ok : Ok (λ x. (j : ℕ) × Counts x) (openRun tables F blocking time values)
+  unfolding Counts
+  run-ok =
+      each-ok (λ n i. Counts) (openTurn tables values) step (machinesOf S) 0 _ (
+        record {
+          machines = refl;
+          frac = refl;
+          normal = refl;
+          padding = refl;
+          room = length-replicate
+              machineMax noRuntime;
+        },
+        none-sent machineMax,
+      )
+    where
+      into : (i : ℕ) (x : Run) → Counts x → (w : WholeDrawn) → WholeOk w
+          → Ok Counts (opened tables i x w)
+      into i x c (NoWhole n) h = h
+      into i x c (GotWhole w) h = (
+        record {
+          machines = c .0 .machines;
+          frac = c .0 .frac;
+          normal = c .0 .normal;
+          padding = c .0 .padding;
+          room = length-set (x .framework .runtime) i _ ∙ c .0 .room;
+        },
+        set-all (Has 0 0) (x .framework .runtime) i _ noRuntime (refl, refl) (c .1),
+      )
+
+      step : (n i : ℕ) (x : Run) → Counts x → Ok Counts (openTurn tables values i x)
+      step n i x c =
+          unfold openTurn in
+          into i x c (startLimit (stateRow (statesOf tables i) 0) values (x .shared .«value_at»))
+          (start-ok (stateRow (statesOf tables i) 0) values (x .shared .«value_at»))
+
+  pub rests : opening tables F blocking time values .refusal ≡ 0
+      → Rest S empty (opening tables F blocking time values .framework)
+  unfolding opening Counts
+  rests ok = by (eqb n 0) (eqb-false n 0) (openRun tables F blocking time values) run-ok ok
     where
       n : ℕ
-      n = orElse (fractionsRefusal F blocking) (tablesRefusal (tables .machines) (tables .states) (tables .transitions))
+      n =
+          orElse (fractionsRefusal F blocking)
+          (tablesRefusal (tables .machines) (tables .states) (tables .transitions))
 
-      by : (b : Bool) → (b ≡ true → n ≡ 0) → cond b (openedBy (openRun tables F blocking time values)) (openedBy (stop n)) .refusal ≡ 0 → n ≡ 0
-      by true e h = e refl
-      by false e h = h
-
-  module _ (f64 : T (fits binary64 F)) (few : rowsIn (tables .machines) ≤ machineMax) where
-    Counts : Run → Type 0
-    Counts x = Frame tables F f64 few empty (x .framework) × ((i : ℕ) → Has 0 0 (runtimeAt (x .framework) i))
-
-    run-ok : Ok (λ x. (j : ℕ) × Counts x) (openRun tables F blocking time values)
-    unfolding Counts
-    run-ok =
-        each-ok (λ n i. Counts) (openTurn tables values) step (rowsIn (tables .machines)) 0 _ (
-          record { machines = refl; frac = refl; normal = refl; padding = refl; room = length-replicate machineMax noRuntime },
-          none-sent machineMax,
-        )
-      where
-        into : (i : ℕ) (x : Run) → Counts x → (w : WholeDrawn) → WholeOk w → Ok Counts (opened tables i x w)
-        into i x c (NoWhole n) h = h
-        into i x c (GotWhole w) h = (
-          record {
-            machines = c .0 .machines;
-            frac = c .0 .frac;
-            normal = c .0 .normal;
-            padding = c .0 .padding;
-            room = length-set (x .framework .runtime) i _ ∙ c .0 .room;
-          },
-          set-all (Has 0 0) (x .framework .runtime) i _ noRuntime (refl, refl) (c .1),
-        )
-
-        step : (n i : ℕ) (x : Run) → Counts x → Ok Counts (openTurn tables values i x)
-        step n i x c =
-            unfold openTurn in
-            into i x c (startLimit (stateRow (statesOf tables i) 0) values (x .shared .«value_at»))
-            (start-ok (stateRow (statesOf tables i) 0) values (x .shared .«value_at»))
-
-    pub rests : opening tables F blocking time values .refusal ≡ 0 → Rest tables F f64 few empty (opening tables F blocking time values .framework)
-    unfolding opening Counts
-    rests ok = by (eqb n 0) (eqb-false n 0) (openRun tables F blocking time values) run-ok ok
-      where
-        n : ℕ
-        n = orElse (fractionsRefusal F blocking) (tablesRefusal (tables .machines) (tables .states) (tables .transitions))
-
-        by : (b : Bool) → (b ≡ false → n ≡ 0 → ⊥) → (o : Outcome) → Ok (λ x. (j : ℕ) × Counts x) o
-            → cond b (openedBy o) (openedBy (stop n)) .refusal ≡ 0 → Rest tables F f64 few empty (cond b (openedBy o) (openedBy (stop n)) .framework)
-        by true e (stop k) w z = absurd (lt-irrefl 0 (subst (λ (j : ℕ). 0 < j) z w))
-        by true e (go x) w z = record { inv = inv-open (checks tables F f64); frame = w .1 .0; at = λ i h. w .1 .1 i }
-        by false e o w z = absurd (e refl z)
+      by : (b : Bool) → (b ≡ false → n ≡ 0 → ⊥) → (o : Outcome) → Ok (λ x. (j : ℕ) × Counts x) o
+          → cond b (openedBy o) (openedBy (stop n)) .refusal ≡ 0
+          → Rest S empty (cond b (openedBy o) (openedBy (stop n)) .framework)
+      by true e (stop k) w z = absurd (lt-irrefl 0 (subst (λ (j : ℕ). 0 < j) z w))
+      by true e (go x) w z =
+          record { inv = inv-open (checks S); frame = w .1 .0; at = λ i h. w .1 .1 i }
+      by false e o w z = absurd (e refl z)

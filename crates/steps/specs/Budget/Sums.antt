@@ -1,4 +1,5 @@
--- Sums over machines, and the arithmetic of the budgets with all that is fixed as variables: U stands for 2 ^ 1074. Assumes nothing.
+-- Sums over machines, and the arithmetic of the budgets with all that is fixed as variables: U stands
+-- for 2 ^ 1074. Assumes nothing.
 use Prim.Native.Nat.{ℕ, zero, suc, _+_, _*_, _-_, _≤_, _<_}
 use native.Mathlib.Nat.{le-trans, le-of-eq, le-refl, mul-le-mul-right, mul-le-mul, add-mul, eq-or-lt-of-le}
 use native.Mathlib.Omega.{arith}
@@ -59,7 +60,8 @@ sum-plus (suc m) own i h = elim (eq-or-lt-of-le h) [
   | inl e ↦
       let k : i ≡ m = omega arith in
       let a = sum-plus-out m own i (omega arith) in
-      let b : plus own i m ≡ suc (own m) = subst (λ (j : ℕ). plus own i j ≡ suc (own j)) k (plus-same own i) in
+      let b : plus own i m ≡ suc (own m) =
+      subst (λ (j : ℕ). plus own i j ≡ suc (own j)) k (plus-same own i) in
       omega arith
   | inr k ↦
       let a = sum-plus m own i (omega arith) in
@@ -74,14 +76,16 @@ Below A U g t x = (x ≤ A + 2) ⊎ (x * U < g * t + 2 * U)
 -- a larger total, and a smaller count
 pub below-more : (A U g t t' x : ℕ) → t ≤ t' → Below A U g t x → Below A U g t' x
 below-more A U g t t' x h (inl k) = inl k
-below-more A U g t t' x h (inr k) = let m : g * t ≤ g * t' = mul-le-mul (le-refl g) h in inr (omega arith)
+below-more A U g t t' x h (inr k) =
+    let m : g * t ≤ g * t' = mul-le-mul (le-refl g) h in inr (omega arith)
 
 pub below-less : (A U g t x y : ℕ) → x ≤ y → Below A U g t y → Below A U g t x
 below-less A U g t x y h (inl k) = inl (le-trans h k)
 below-less A U g t x y h (inr k) = let m : x * U ≤ y * U = mul-le-mul-right U h in inr (omega arith)
 
 -- a passed check: the machine has sent p, and with what it holds and is about to get x is at most p + 2
-pub below-pass : (A U g p n x : ℕ) → x ≤ p + 2 → (p < A) ⊎ ((p + n ≡ 0) ⊎ (p * U < g * (p + n))) → Below A U g (p + n) x
+pub below-pass : (A U g p n x : ℕ) → x ≤ p + 2 → (p < A) ⊎ ((p + n ≡ 0) ⊎ (p * U < g * (p + n)))
+    → Below A U g (p + n) x
 below-pass A U g p n x h (inl k) = inl (omega arith)
 below-pass A U g p n x h (inr (inl k)) = inl (omega arith)
 below-pass A U g p n x h (inr (inr k)) =
@@ -89,7 +93,8 @@ below-pass A U g p n x h (inr (inr k)) =
     inr (omega arith)
 
 -- as demand 3 has it, with a for A + 2 and b for 2
-pub below-budget : (A U g t x a b : ℕ) → A + 2 ≤ a → 2 ≤ b → Below A U g t x → (x ≤ a) ⊎ ((x - b) * U < g * t)
+pub below-budget : (A U g t x a b : ℕ) → A + 2 ≤ a → 2 ≤ b → Below A U g t x
+    → (x ≤ a) ⊎ ((x - b) * U < g * t)
 below-budget A U g t x a b h k (inl m) = inl (le-trans m h)
 below-budget A U g t zero a b h k (inr m) = inl (omega arith)
 below-budget A U g t (suc zero) a b h k (inr m) = inl (omega arith)
