@@ -11,7 +11,9 @@ use mathlib.Core.Logic.{⊎-elim}
 use lib.Dec.{eqb, ltb}
 use lib.ListN.{length, length-take, length-drop}
 use borrow.Author.Tests.{eqb-true, ltb-true}
-use Rattle.stream.specs.Stream.{statesAt, transitionsAt, chancesAt, valuesAt, callsAt, callAt, nextCall, endAt, callCount, narrow, chanceWords, chanceDraws, valueWords, valueDraws, checkOf, layoutOf}
+use Rattle.stream.specs.Stream.{statesAt, transitionsAt, chancesAt, valuesAt, callsAt, layoutOf, checkOf}
+use Rattle.stream.specs.Stream.{callAt, nextCall, endAt, callCount}
+use Rattle.stream.specs.Stream.{narrow, chanceWords, chanceDraws, valueWords, valueDraws}
 use Rattle.stream.specs.Within.{Ordered}
 
 -- ---- the order of the calls, whatever the words say
