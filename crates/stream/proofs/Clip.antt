@@ -1,6 +1,6 @@
 -- Places that stop one past the end: their sums, the parts' and the calls' places, and the words between two.
 use Prim.Native.Nat.{ℕ, _+_, _*_, _-_, _/_, _≤_, _<_, min}
-use mathlib.Core.Path.{_≡_, ap, _∙_}
+use mathlib.Core.Path.{_≡_, sym, ap, _∙_}
 use mathlib.Core.Bool.{Bool, cond}
 use mathlib.Core.List.{List}
 use borrow.Author.Tests.{eq-eqb, ne-eqb}
@@ -8,7 +8,7 @@ use native.Mathlib.Omega.{arith}
 use native.Mathlib.Numerals.{add-one}
 use native.Mathlib.Nat.{div-lt-iff-lt-mul, le-div-iff-mul-le, mul-comm}
 use lib.ListN.{length, take, drop}
-use Rattle.stream.specs.Stream.{callAt, nextCall, endAt, callCount, layoutOf, part, narrow, chanceWords, checkOf}
+use Rattle.stream.specs.Stream.{callAt, callCount, chanceWords, checkOf, endAt, layoutOf, narrow, nextCall, part, valuesAt}
 use Rattle.stream.specs.Within.{within, placesOf}
 use Rattle.stream.specs.Inside.{in-order, calls-grow}
 use Rattle.stream.specs.declared.Layout.{Layout}
@@ -85,7 +85,13 @@ module _ (ws : List ℕ) (end : ℕ) (is : end ≡ within ws (endAt ws)) where
   unfolding checkOf
   wrong-end h = rw (ne-eqb (endAt ws) (length ws) (λ e. h (is ∙ omega (arith, e))))
 
-  -- the chance words decide
-  pub right-end : (b : Bool) → end ≡ length ws → narrow (chanceWords ws) ≡ b → cond b 0 21 ≡ checkOf ws
-  unfolding checkOf
-  right-end b h n = rw (eq-eqb (endAt ws) (length ws) (ends h), n)
+  -- the chance words, cut out between two places, decide
+  pub right-end : (b : Bool) (l : Layout) (cs : List ℕ) → end ≡ length ws → l ≡ placesOf ws
+      → cs ≡ take (l .values - l .chances) (drop (l .chances) ws)
+      → narrow cs ≡ b
+      → cond b 0 21 ≡ checkOf ws
+  unfolding checkOf chanceWords valuesAt
+  right-end b l cs h p c n =
+      let x : l ≡ layoutOf ws = p ∙ exact ws (ends h) in
+      let w = c ∙ cut ws _ _ _ _ (ap (λ (q : Layout). q .chances) x) (ap (λ (q : Layout). q .values) x) in
+      rw (eq-eqb (endAt ws) (length ws) (ends h), ap narrow (sym w) ∙ n)

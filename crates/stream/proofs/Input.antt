@@ -7,7 +7,7 @@ use native.Mathlib.Omega.{arith}
 use lib.Dec.{eqb, ltb}
 use lib.ListN.{length, take, drop}
 use lib.Seq.{take-at}
-use borrow.Author.Tests.{ltb-false, eq-eqb, ne-eqb}
+use borrow.Author.Tests.{ltb-false, eqb-true, eq-eqb, ne-eqb}
 use Rattle.text.specs.Words.{wordsTo}
 use Rattle.text.proofs.Stores.{length-words}
 use Rattle.stream.specs.Stream.{sizeRefusal, inputWords, inputRefusal, loaded, checkOf}
@@ -36,3 +36,25 @@ module _ (bs ws : List ℕ) where
       let t : take n out ≡ wordsTo bs n =
       ap (take n) o ∙ take-at (wordsTo bs n) (drop n ws) n (length-words bs n) in
       (rw e (q ∙ ap checkOf t), rw e o)
+
+  -- an accepted input stands at the start of the words, whole
+  pub taken-up : (out : List ℕ) → inputRefusal bs ≡ 0 → out ≡ loaded bs ws
+      → (take (length bs / 8) out ≡ inputWords bs)
+      × (checkOf (inputWords bs) ≡ 0)
+      × (length (inputWords bs) ≡ length bs / 8)
+      × (length bs ≤ 65536)
+  unfolding inputRefusal loaded inputWords
+  taken-up out h o = by-size (eqb (sizeRefusal (length bs)) 0) refl h o
+    where
+      by-size : (b : Bool) → eqb (sizeRefusal (length bs)) 0 ≡ b
+          → cond b (checkOf (inputWords bs)) 21 ≡ 0
+          → out ≡ cond b (inputWords bs ++ drop (length bs / 8) ws) ws
+          → (take (length bs / 8) out ≡ inputWords bs)
+          × (checkOf (inputWords bs) ≡ 0)
+          × (length (inputWords bs) ≡ length bs / 8)
+          × (length bs ≤ 65536)
+      by-size true e z q =
+          let n : ℕ = length bs / 8 in
+          let l : length (wordsTo bs n) ≡ n = length-words bs n in
+          (ap (take n) q ∙ take-at (wordsTo bs n) (drop n ws) n l, z, l, size-fits (length bs) (eqb-true _ _ e))
+      by-size false e z q = absurd (omega (arith, z))

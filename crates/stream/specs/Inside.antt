@@ -1,5 +1,5 @@
 -- Where the check accepts, every part and every call lies inside the words.
-use Prim.Native.Nat.{ℕ, zero, suc, _+_, _%_, _≤_, _<_}
+use Prim.Native.Nat.{ℕ, zero, suc, _+_, _*_, _%_, _≤_, _<_}
 use mathlib.Core.Path.{_≡_, refl}
 use mathlib.Core.Bool.{Bool, true, false, cond}
 use mathlib.Core.List.{List, [], _∷_, map}
@@ -11,7 +11,9 @@ use mathlib.Core.Logic.{⊎-elim}
 use lib.Dec.{eqb, ltb}
 use lib.ListN.{length, length-take, length-drop}
 use borrow.Author.Tests.{eqb-true, ltb-true}
-use Rattle.stream.specs.Stream.{statesAt, transitionsAt, chancesAt, valuesAt, callsAt, callAt, nextCall, endAt, callCount, narrow, chanceWords, chanceDraws, valueWords, valueDraws, checkOf, layoutOf}
+use Rattle.stream.specs.Stream.{statesAt, transitionsAt, chancesAt, valuesAt, callsAt, layoutOf, checkOf}
+use Rattle.stream.specs.Stream.{callAt, nextCall, endAt, callCount}
+use Rattle.stream.specs.Stream.{narrow, chanceWords, chanceDraws, valueWords, valueDraws}
 use Rattle.stream.specs.Within.{Ordered}
 
 -- ---- the order of the calls, whatever the words say
@@ -27,6 +29,12 @@ calls-grow ws i (suc n) h =
     (λ e. rw e (omega arith))
     (λ l. omega (arith, calls-grow ws i n (omega (arith, l)), call-grows ws (callAt ws n)))
     (eq-or-lt-of-le h)
+
+-- each call before a place takes two words at least
+two-each : (ws : List ℕ) (i : ℕ) → 2 * i ≤ callAt ws i
+unfolding callAt
+two-each ws zero = omega arith
+two-each ws (suc i) = omega (arith, two-each ws i, call-grows ws (callAt ws i))
 
 -- the calls end behind their start
 pub ends-later : (ws : List ℕ) → callsAt ws ≤ endAt ws
@@ -94,3 +102,8 @@ chances-exact (w ∷ ws) h = by-word (ltb w 4294967296) refl h (chances-exact ws
         let m : w % 4294967296 ≡ w = omega (arith, ltb-true w 4294967296 e) in
         rw (m, rest n)
     by-word false e n rest = let z : _≡_ {A = Bool} false true = n in cc
+
+-- THEOREM: a call takes two words at least, so calls are at most half as many as words.
+pub calls-few : (ws : List ℕ) → checkOf ws ≡ 0 → 2 * callCount ws ≤ length ws
+unfolding endAt
+calls-few ws h = omega (arith, two-each ws (callCount ws), accepted ws h .0)

@@ -42,18 +42,28 @@ callCount ws = getD ws 8 0
 
 -- ---- the parts behind the header, in their order
 
--- where each starts: tables of 6, 58 and 2 words a row, tapes of a word a draw, then the calls
+-- the words of a row of each table
+abbrev pub machineWords : ℕ
+machineWords = 6
+
+abbrev pub stateWords : ℕ
+stateWords = 58
+
+abbrev pub transitionWords : ℕ
+transitionWords = 2
+
+-- where each part starts: three tables, two tapes of a word a draw, then the calls
 abbrev pub machinesAt : ℕ
 machinesAt = 9
 
 unfoldable pub statesAt : List ℕ → ℕ
-statesAt ws = machinesAt + 6 * machineRows ws
+statesAt ws = machinesAt + machineWords * machineRows ws
 
 unfoldable pub transitionsAt : List ℕ → ℕ
-transitionsAt ws = statesAt ws + 58 * stateRows ws
+transitionsAt ws = statesAt ws + stateWords * stateRows ws
 
 unfoldable pub chancesAt : List ℕ → ℕ
-chancesAt ws = transitionsAt ws + 2 * transitionRows ws
+chancesAt ws = transitionsAt ws + transitionWords * transitionRows ws
 
 unfoldable pub valuesAt : List ℕ → ℕ
 valuesAt ws = chancesAt ws + chanceDraws ws
@@ -76,13 +86,13 @@ abbrev pub part : ℕ → ℕ → List ℕ → List ℕ
 part at n ws = take n (drop at ws)
 
 unfoldable pub machineTable : List ℕ → List ℕ
-machineTable ws = part machinesAt (6 * machineRows ws) ws
+machineTable ws = part machinesAt (machineWords * machineRows ws) ws
 
 unfoldable pub stateTable : List ℕ → List ℕ
-stateTable ws = part (statesAt ws) (58 * stateRows ws) ws
+stateTable ws = part (statesAt ws) (stateWords * stateRows ws) ws
 
 unfoldable pub transitionTable : List ℕ → List ℕ
-transitionTable ws = part (transitionsAt ws) (2 * transitionRows ws) ws
+transitionTable ws = part (transitionsAt ws) (transitionWords * transitionRows ws) ws
 
 unfoldable pub chanceWords : List ℕ → List ℕ
 chanceWords ws = part (chancesAt ws) (chanceDraws ws) ws

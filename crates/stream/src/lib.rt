@@ -3,8 +3,6 @@ ghost use mathlib.Core.Path.{_≡_};
 ghost use Prim.Native.Nat.{_+_, _*_, _-_, _≤_, _<_, min};
 ghost use lib.ListN.{length, getD, take, drop};
 ghost use Rattle.stream.specs.Stream.{
-  callAt,
-  callCount,
   callOf,
   callsAt,
   checkOf,
@@ -25,13 +23,13 @@ ghost use Rattle.stream.specs.Stream.{
 ghost use Rattle.stream.specs.Within.{Ordered, placesOf, within};
 
 // The words of the header, and of a row of each table.
-const HEADER: u64 = 9;
+const HEADER_WORDS: u64 = 9;
 
-const MACHINE: u64 = 6;
+const MACHINE_WORDS: u64 = 6;
 
-const STATE: u64 = 58;
+const STATE_WORDS: u64 = 58;
 
-const TRANSITION: u64 = 2;
+const TRANSITION_WORDS: u64 = 2;
 
 // Where the parts behind the machine table start.
 pub struct Layout {
@@ -76,10 +74,10 @@ fn places(words: &[u64]) -> Layout
     ensures { λ r. ⌜ r ≡ placesOf (now (words .entry)) ⌝ }
 {
     let end = words.len();
-    let machines = after(end, 0, 1, HEADER);
-    let states = after(end, machines, word(words, 3), MACHINE);
-    let transitions = after(end, states, word(words, 4), STATE);
-    let chances = after(end, transitions, word(words, 5), TRANSITION);
+    let machines = after(end, 0, 1, HEADER_WORDS);
+    let states = after(end, machines, word(words, 3), MACHINE_WORDS);
+    let transitions = after(end, states, word(words, 4), STATE_WORDS);
+    let chances = after(end, transitions, word(words, 5), TRANSITION_WORDS);
     let values = after(end, chances, word(words, 6), 1);
     let calls = after(end, values, word(words, 7), 1);
     Layout {
@@ -171,7 +169,7 @@ pub fn machine_table(words: &[u64]) -> &[u64]
     ensures { λ r. ⌜ now r ≡ machineTable (now (words .entry)) ⌝ }
 {
     let l = parts(words);
-    between(words, HEADER as usize, l.states)
+    between(words, HEADER_WORDS as usize, l.states)
 }
 
 pub fn state_table(words: &[u64]) -> &[u64]
