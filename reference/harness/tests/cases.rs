@@ -270,6 +270,8 @@ fn blocking_limits() {
         let passed: Vec<usize> = all[1..].iter().map(|a| a.rows.len()).collect();
         assert_eq!(passed, [1, 0, 0, 0, 0, 1], "{whose}");
     }
+    let all = of("blocking: below the allowance, then at it");
+    assert_eq!((all[2].rows.len(), all[3].rows.len()), (1, 0));
     let all = of("blocking: replace while on, only the state limit counts");
     assert_eq!((rows(&all[2]), all[3].rows.len()), (vec![[0, 3, 2, 1]], 0));
 }

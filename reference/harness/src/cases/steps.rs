@@ -5,7 +5,7 @@ use super::*;
 /// Sentences about the steps.
 pub fn steps() -> Inputs {
     let zero_a = |operation, value| State::pad(1.0).counter(COUNTER_A, operation, value);
-    let blocks = State::block(1.0, 2.0).to(NORMAL_RECV, 0);
+    let blocks = [State::block(1.0, 2.0).to(NORMAL_RECV, 0)];
     // blocked since 8, two before the opening, until 12: 0/0, 2/0, 4/2, 4/8, 4/9
     let quotients = |input: Input| {
         input
@@ -235,7 +235,8 @@ pub fn steps() -> Inputs {
         ("signals: to all, the next one dropped", {
             let state =
                 State::pad(1.0).to(NORMAL_RECV, SIGNAL).on(SIGNALLED, &[(SIGNAL, 0.5), (0, 0.5)]);
-            let input = Input::new().machine(&[state.clone()]).machine(&[state]);
+            let states = [state];
+            let input = Input::new().machine(&states).machine(&states);
             input.chances(&[0.5, 0.5, 0.25, 0.75]).call(1, &[RECV]).call(2, &[])
         }),
         ("padding: machine 1 of 2 stops, 1 of 3 passes", {
@@ -265,10 +266,14 @@ pub fn steps() -> Inputs {
                 .call(4, &[SENT, padded(0)])
         }),
         ("blocking, machine: 0/0 passes, 1/0 stops, equal stops", {
-            quotients(Input::new().at(10).limited((0, 0.0), (0, 0.5), &[blocks.clone()]))
+            quotients(Input::new().at(10).limited((0, 0.0), (0, 0.5), &blocks))
         }),
         ("blocking, framework: 0/0 passes, 1/0 stops, equal stops", {
-            quotients(Input::new().at(10).fractions(0.0, 0.5).machine(&[blocks]))
+            quotients(Input::new().at(10).fractions(0.0, 0.5).machine(&blocks))
+        }),
+        ("blocking: below the allowance, then at it", {
+            let input = Input::new().limited((0, 0.0), (5, 0.01), &blocks);
+            input.chances(&[0.5; 2]).call(1, &[blocked(9)]).call(5, &[RECV]).call(6, &[RECV])
         }),
         ("blocking: replace while on, only the state limit counts", {
             let state = |flags| State::block(1.0, 2.0).flags(flags).to(NORMAL_RECV, 0);
