@@ -260,6 +260,7 @@ fn padding_limits() {
     assert_eq!(passed("padding: machine 1 of 2 stops, 1 of 3 passes"), [0, 1]);
     assert_eq!(passed("padding: framework 1 of 2 stops, 1 of 3 passes"), [0, 1]);
     assert_eq!(passed("padding: 0 of 0 with state limit 0 passes"), [1, 0]);
+    assert_eq!(passed("padding: a NaN fraction is none, so 0 of 0 with state limit 0 stops"), [0]);
     assert_eq!(passed("padding: the allowance, then one more by a late report"), [1, 1, 0, 0]);
 }
 
