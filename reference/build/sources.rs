@@ -1,5 +1,5 @@
-// Where the Rust sources are: the directory named by MAYBENOT_SRC, else the one in the file SOURCES,
-// relative to reference/. Included by the build scripts of `maybenot` and `probed`.
+// Where the Rust sources are: the directory named by MAYBENOT_SRC, else the one in the file
+// SOURCES, relative to reference/. Included by the build scripts of `maybenot` and `probed`.
 
 const FILES: [&str; 9] =
     ["constants", "time", "event", "dist", "counter", "action", "state", "machine", "framework"];
@@ -17,7 +17,7 @@ fn sources() -> std::path::PathBuf {
         let path = from.join(file).with_extension("rs");
         println!("cargo:rerun-if-changed={}", path.display());
         if !path.is_file() {
-            eprintln!("{} is not there: set MAYBENOT_SRC to the directory of framework.rs", path.display());
+            eprintln!("no {}: set MAYBENOT_SRC to the directory of framework.rs", path.display());
             std::process::exit(1);
         }
     }

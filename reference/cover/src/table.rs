@@ -169,6 +169,8 @@ const STOPS: &[&str] = &[
     "machine total 0 allows",
     "machine total 0 allows with state limit 0",
     "framework total 0 allows",
+    "padding at an allowance above 0",
+    "blocked time at an allowance above 0",
     "blocked time takes in the ongoing part",
 ];
 

@@ -1,6 +1,7 @@
 //! Cuts an input down while it still shows what it was found for.
 
 use crate::stream::*;
+use std::collections::BTreeSet;
 
 struct Cut<'a> {
     best: Stream,
@@ -132,7 +133,26 @@ fn without(row: u64, first: &mut u64, count: &mut u64) {
     }
 }
 
+/// The transition rows that the states of a machine lead to.
+fn rows_of(stream: &Stream, machine: &[u64; MACHINE]) -> BTreeSet<usize> {
+    let states = stream.states.iter().skip(machine[4] as usize).take(machine[5] as usize);
+    let pairs = states.flat_map(|state| state[PAIRS..].as_chunks::<2>().0);
+    let rows = pairs.flat_map(|[first, count]| *first..first.saturating_add(*count));
+    let table = stream.transitions.len();
+    rows.take(4 * WORDS).map(|row| row as usize).filter(|row| *row < table).collect()
+}
+
 fn drop_state(stream: &mut Stream, state: usize) {
+    let holds = |m: &&[u64; MACHINE]| (state as u64).checked_sub(m[4]).is_some_and(|l| l < m[5]);
+    if let Some(machine) = stream.machines.iter().find(holds) {
+        let place = state as u64 - machine[4];
+        for row in rows_of(stream, machine) {
+            let target = &mut stream.transitions[row][0];
+            if *target > place && *target < SIGNAL {
+                *target -= 1;
+            }
+        }
+    }
     stream.states.remove(state);
     for [.., first, count] in &mut stream.machines {
         without(state as u64, first, count);

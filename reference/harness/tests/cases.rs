@@ -260,6 +260,7 @@ fn padding_limits() {
     assert_eq!(passed("padding: machine 1 of 2 stops, 1 of 3 passes"), [0, 1]);
     assert_eq!(passed("padding: framework 1 of 2 stops, 1 of 3 passes"), [0, 1]);
     assert_eq!(passed("padding: 0 of 0 with state limit 0 passes"), [1, 0]);
+    assert_eq!(passed("padding: a NaN fraction is none, so 0 of 0 with state limit 0 stops"), [0]);
     assert_eq!(passed("padding: the allowance, then one more by a late report"), [1, 1, 0, 0]);
 }
 
@@ -270,6 +271,8 @@ fn blocking_limits() {
         let passed: Vec<usize> = all[1..].iter().map(|a| a.rows.len()).collect();
         assert_eq!(passed, [1, 0, 0, 0, 0, 1], "{whose}");
     }
+    let all = of("blocking: below the allowance, then at it");
+    assert_eq!((all[2].rows.len(), all[3].rows.len()), (1, 0));
     let all = of("blocking: replace while on, only the state limit counts");
     assert_eq!((rows(&all[2]), all[3].rows.len()), (vec![[0, 3, 2, 1]], 0));
 }

@@ -80,6 +80,13 @@ pub fn counter(which: &str, operation: usize, copy: bool, dist: bool) {
     hit(&format!("{which}: {operation} {value}"));
 }
 
+/// A counter's update: the values before and after, and whether it has reported zero in this batch.
+pub fn updated(which: &str, old: u64, new: u64, reported: bool) {
+    hit_if(old != 0 && new == 0 && reported, &format!("{which} reaches zero again, not reported"));
+    hit_if(old == 0 && new == 0, &format!("{which} stays at zero"));
+    hit_if(old != u64::MAX && new == u64::MAX, &format!("{which} at u64 maximum"));
+}
+
 pub fn zeroed(which: usize) {
     let mut both = ZEROED.get();
     both[which] = true;
@@ -118,6 +125,25 @@ pub fn fraction(what: &str, reached: f64, limit: f64) {
         Some(std::cmp::Ordering::Equal) => format!("{what}: equal stops"),
         Some(std::cmp::Ordering::Greater) => format!("{what}: above stops"),
     });
+}
+
+pub fn uniform(low: f64, high: f64) {
+    hit(if low == high { "Uniform low = high, no draw" } else { "Uniform draws" });
+    let signs = low == high && low.to_bits() != high.to_bits();
+    hit_if(signs, "Uniform from -0.0 to 0.0, no draw");
+}
+
+/// A sample, with its start added, and the max over it.
+pub fn sample(sampled: f64, adjusted: f64, max: f64) {
+    hit_if(sampled.is_nan(), "sample NaN");
+    hit_if(sampled.is_infinite(), "sample infinite");
+    hit_if(sampled.is_finite() && !adjusted.is_finite(), "sample + start not finite");
+    if adjusted.is_finite() {
+        hit_if(adjusted < 0.0, "sample below 0");
+        hit_if(max > 0.0 && adjusted > max, "max lowers the sample");
+        hit_if(max > 0.0 && adjusted <= max, "max leaves the sample");
+        hit_if(max < 0.0 || max.is_nan(), "max below 0 or NaN sets no cap");
+    }
 }
 
 const DAY: f64 = 86_400_000_000.0;
