@@ -3,8 +3,9 @@
 use crate::clock::Clock;
 use crate::input::{self, Random, Tapes};
 use crate::reference::{self, Micros, Reference};
+use maybenot_link::dist::DistType;
 use maybenot_link::sys::{self, Words};
-use maybenot_link::{Framework, Machine, Tables, TriggerAction, TriggerEvent};
+use maybenot_link::{Draws, Framework, Machine, Tables, TriggerAction, TriggerEvent};
 use std::hint::black_box;
 use std::rc::Rc;
 
@@ -130,6 +131,18 @@ impl Case {
         self.per_batch(start)
     }
 
+    /// The same with draws from a source, which the binding asks one by one.
+    pub fn time_source(&self) -> f64 {
+        let mut framework = self.ours.clone();
+        let mut source = Source { tapes: &self.tapes, chance_at: 0, value_at: self.values_at };
+        let start = Clock::start();
+        for batch in &self.batches {
+            let actions = framework.trigger_events(&batch.typed, batch.time, &mut source);
+            black_box(actions.expect("accepted"));
+        }
+        self.per_batch(start)
+    }
+
     /// Nanoseconds for a batch that is refused as 18: the entry and the table check.
     pub fn time_checked(&self) -> f64 {
         time_refused(self.tables.words(), self.tables.num_machines() as u64 + 1, self.batches.len())
@@ -137,6 +150,25 @@ impl Case {
 
     fn per_batch(&self, start: Clock) -> f64 {
         start.nanoseconds() / self.batches.len() as f64
+    }
+}
+
+/// The tapes as a source.
+struct Source<'a> {
+    tapes: &'a Tapes,
+    chance_at: usize,
+    value_at: usize,
+}
+
+impl Draws for Source<'_> {
+    fn chance(&mut self) -> f32 {
+        self.chance_at += 1;
+        self.tapes.chances[self.chance_at - 1]
+    }
+
+    fn value(&mut self, _: &DistType) -> f64 {
+        self.value_at += 1;
+        self.tapes.values[self.value_at - 1]
     }
 }
 

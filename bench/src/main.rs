@@ -52,19 +52,20 @@ fn events_table() {
     println!(
         "An event's time is the batch's less that of a batch without events, on both sides.\n"
     );
-    println!("| machines x states | events | Rust ns | ours ns | ratio | Rust ns an event | ours ns an event | ratio | typed binding ns |");
-    println!("|---|---|---|---|---|---|---|---|---|");
+    println!("| machines x states | events | Rust ns | ours ns | ratio | Rust ns an event | ours ns an event | ratio | typed binding ns | with a source ns |");
+    println!("|---|---|---|---|---|---|---|---|---|---|");
     for (count, states) in [(1, 3), (4, 5), (16, 6)] {
         let empty = Case::new(count, states, 0, 400);
         let mut without = [0.0; 2];
         for events in [1, 4, 16] {
             let case = Case::new(count, states, events, 4000 / events / count);
-            let [rust, ours, typed, rust_empty, ours_empty] = medians(
+            let [rust, ours, typed, source, rust_empty, ours_empty] = medians(
                 BLOCKS,
                 [
                     &mut || case.time_reference(),
                     &mut || case.time_ours(),
                     &mut || case.time_typed(),
+                    &mut || case.time_source(),
                     &mut || empty.time_reference(),
                     &mut || empty.time_ours(),
                 ],
@@ -72,14 +73,17 @@ fn events_table() {
             let each = |whole: f64, empty: f64| (whole - empty) / events as f64;
             let (rust_event, ours_event) = (each(rust, rust_empty), each(ours, ours_empty));
             println!(
-                "| {count} x {states} | {events} | {rust:.0} | {ours:.0} | {:.2} | {rust_event:.1} | {ours_event:.1} | {:.2} | {typed:.0} |",
+                "| {count} x {states} | {events} | {rust:.0} | {ours:.0} | {:.2} | {rust_event:.1} | {ours_event:.1} | {:.2} | {typed:.0} | {source:.0} |",
                 ours / rust,
                 ours_event / rust_event,
             );
             without = [rust_empty, ours_empty];
         }
         let [rust, ours] = without;
-        println!("| {count} x {states} | 0 | {rust:.0} | {ours:.0} | {:.2} | | | | |", ours / rust);
+        println!(
+            "| {count} x {states} | 0 | {rust:.0} | {ours:.0} | {:.2} | | | | | |",
+            ours / rust
+        );
     }
     println!();
 }

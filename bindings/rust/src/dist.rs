@@ -37,14 +37,6 @@ impl DistType {
     pub fn takes_draw(&self) -> bool {
         !matches!(self, DistType::Uniform { low, high } if low == high)
     }
-
-    /// Whether the library takes this value as a draw of this type.
-    pub fn allows(&self, drawn: f64) -> bool {
-        match self {
-            DistType::Uniform { low, high } => *low <= drawn && drawn < *high,
-            _ => true,
-        }
-    }
 }
 
 impl fmt::Display for DistType {

@@ -81,9 +81,6 @@ fn with_draws<S>(
         });
         let dist = asked.ok_or(Refusal::DrawsUsedUp)?;
         let drawn = draws.value(&dist.dist);
-        if !dist.dist.allows(drawn) {
-            return Err(Refusal::DrawOutOfRange);
-        }
         values.push(drawn);
         samples.push(Asking::sample(&dist, drawn));
     }
@@ -188,6 +185,7 @@ impl<T: Borrow<Tables>> Framework<T> {
         let (most_chances, most_values) = most_draws(events.len() / 2, tables.num_machines());
         while chances.len() < most_chances {
             let chance = draws.chance();
+            // refused here, since it would pass for a closed distribution in a trial
             if !(0.0..1.0).contains(&chance) {
                 return Err(Refusal::DrawOutOfRange);
             }
