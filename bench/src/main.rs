@@ -1,7 +1,7 @@
-//! Times the library against the Rust: same machines, same events, same draws, one process, in turns.
+//! Times the library against the Rust: same machines, events and draws, one process, in turns.
 //!
-//! `cargo run --release` prints the tables. `cargo run --release -- MACHINES STATES EVENTS SIDE CALLS`
-//! runs one side (`ours` or `rust`) of one case, for a profiler.
+//! `cargo run --release` prints the tables. With MACHINES STATES EVENTS SIDE BATCHES after `--` it
+//! runs one side (`ours`, `rust` or `check`) of one case, for a profiler.
 
 mod case;
 mod clock;
@@ -33,6 +33,11 @@ fn medians<const N: usize>(blocks: usize, mut measure: [&mut dyn FnMut() -> f64;
     times.map(median)
 }
 
+fn header(columns: &[&str]) {
+    println!("| {} |", columns.join(" | "));
+    println!("|{}", "---|".repeat(columns.len()));
+}
+
 fn fixed_cost() {
     let none = Case::new(0, 0, 0, 2000);
     let empty = Tables::new(&[]).expect("no machines");
@@ -52,8 +57,18 @@ fn events_table() {
     println!(
         "An event's time is the batch's less that of a batch without events, on both sides.\n"
     );
-    println!("| machines x states | events | Rust ns | ours ns | ratio | Rust ns an event | ours ns an event | ratio | typed binding ns | with a source ns |");
-    println!("|---|---|---|---|---|---|---|---|---|---|");
+    header(&[
+        "machines x states",
+        "events",
+        "Rust ns",
+        "ours ns",
+        "ratio",
+        "Rust ns an event",
+        "ours ns an event",
+        "ratio",
+        "typed binding ns",
+        "with a source ns",
+    ]);
     for (count, states) in [(1, 3), (4, 5), (16, 6)] {
         let empty = Case::new(count, states, 0, 400);
         let mut without = [0.0; 2];
@@ -72,11 +87,12 @@ fn events_table() {
             );
             let each = |whole: f64, empty: f64| (whole - empty) / events as f64;
             let (rust_event, ours_event) = (each(rust, rust_empty), each(ours, ours_empty));
-            println!(
-                "| {count} x {states} | {events} | {rust:.0} | {ours:.0} | {:.2} | {rust_event:.1} | {ours_event:.1} | {:.2} | {typed:.0} | {source:.0} |",
-                ours / rust,
-                ours_event / rust_event,
+            print!(
+                "| {count} x {states} | {events} | {rust:.0} | {ours:.0} | {:.2} |",
+                ours / rust
             );
+            print!(" {rust_event:.1} | {ours_event:.1} | {:.2} |", ours_event / rust_event);
+            println!(" {typed:.0} | {source:.0} |");
             without = [rust_empty, ours_empty];
         }
         let [rust, ours] = without;
@@ -90,8 +106,14 @@ fn events_table() {
 
 fn check_table() {
     println!("## The table check\n");
-    println!("| machines x states | words in the tables | words to read | check ns | ns a word to read | ns a word |");
-    println!("|---|---|---|---|---|---|");
+    header(&[
+        "machines x states",
+        "words in the tables",
+        "words to read",
+        "check ns",
+        "ns a word to read",
+        "ns a word",
+    ]);
     let empty = Tables::new(&[]).expect("no machines");
     for (count, states) in [(1, 3), (4, 5), (16, 6), (1, 1000), (16, 1000)] {
         let machines = input::machines(count, states);
@@ -119,8 +141,7 @@ fn check_table() {
 fn growth() {
     println!("## Growth\n");
     println!("One event a batch.\n");
-    println!("| machines x states | Rust ns | ours ns | check ns | ours without the check ns |");
-    println!("|---|---|---|---|---|");
+    header(&["machines x states", "Rust ns", "ours ns", "check ns", "ours without the check ns"]);
     let sizes =
         [(1, 5), (2, 5), (4, 5), (8, 5), (16, 5), (1, 10), (1, 100), (1, 1000), (1, 10_000)];
     let empty = Tables::new(&[]).expect("no machines");
