@@ -1,0 +1,207 @@
+//! A case: machines, batches and tapes, run by both sides block by block.
+
+use crate::clock::Clock;
+use crate::input::{self, Random, Tapes};
+use crate::reference::{self, Micros, Reference};
+use maybenot_link::dist::DistType;
+use maybenot_link::sys::{self, Words};
+use maybenot_link::{Draws, Framework, Machine, Tables, TriggerAction, TriggerEvent};
+use std::hint::black_box;
+use std::rc::Rc;
+
+/// Words of output for 16 machines.
+const OUT: usize = 96;
+
+pub struct Batch {
+    time: u64,
+    ours: Vec<u64>,
+    typed: Vec<TriggerEvent>,
+    reference: Vec<maybenot::TriggerEvent>,
+}
+
+pub struct Case {
+    pub tables: Tables,
+    pub batches: Vec<Batch>,
+    tapes: Rc<Tapes>,
+    ours: Framework,
+    reference: Reference,
+    values_at: usize,
+}
+
+impl Case {
+    /// Some batches of events on some machines. Both sides have answered alike.
+    pub fn new(count: usize, states: usize, events: usize, batches: usize) -> Case {
+        Case::of(&input::machines(count, states), events, batches)
+    }
+
+    pub fn of(machines: &[Machine], events: usize, batches: usize) -> Case {
+        let mut random = Random::new(7);
+        let count = machines.len();
+        let batch = |k: usize| {
+            let typed = input::events(&mut random, events, count);
+            Batch {
+                time: 50 * (k as u64 + 1),
+                ours: typed.iter().flat_map(|event| event.to_words()).collect(),
+                reference: typed.iter().map(reference::event_of).collect(),
+                typed,
+            }
+        };
+        let batches: Vec<Batch> = (0..batches).map(batch).collect();
+        let most = batches.len() * (events * (count + 1) + count + 2);
+        let tapes = Rc::new(input::tapes(&mut random, most, 3 * most));
+        let tables = Tables::new(machines).expect("valid machines");
+        let (ours, used) =
+            Framework::open_with(tables.clone(), 0.5, 0.5, 0, &tapes.values).expect("opens");
+        let reference = reference::open(machines, &tapes);
+        let case = Case { tables, batches, tapes, ours, reference, values_at: used.values };
+        case.compare();
+        case
+    }
+
+    /// The actions of both sides, batch by batch.
+    fn compare(&self) {
+        let (mut ours, mut reference) = (self.ours.clone(), self.reference.clone());
+        let (mut chance_at, mut value_at) = (0, self.values_at);
+        let mut out = Vec::new();
+        for batch in &self.batches {
+            let (chances, values) =
+                (&self.tapes.chances[chance_at..], &self.tapes.values[value_at..]);
+            let used = ours.batch(batch.time, &batch.typed, chances, values, &mut out);
+            let used = used.expect("accepted");
+            (chance_at, value_at) = (chance_at + used.chances, value_at + used.values);
+            let actions = reference.trigger_events(&batch.reference, Micros(batch.time));
+            let expected: Vec<TriggerAction> = actions.map(reference::answer_of).collect();
+            assert_eq!(out, expected);
+        }
+        assert_eq!(ours.all_machines_ended(), reference.all_machines_ended());
+    }
+
+    /// Nanoseconds for a batch, by the Rust.
+    pub fn time_reference(&self) -> f64 {
+        let mut framework = self.reference.clone();
+        let start = Clock::start();
+        for batch in &self.batches {
+            let actions = framework.trigger_events(&batch.reference, Micros(batch.time));
+            actions.for_each(|action| {
+                black_box(action);
+            });
+        }
+        self.per_batch(start)
+    }
+
+    /// Nanoseconds for a batch, by ours, with the tables lent and the words of the output read.
+    pub fn time_ours(&self) -> f64 {
+        let (mut framework, words) = (*self.ours.state(), self.tables.words());
+        let (mut chance_at, mut value_at) = (0, self.values_at);
+        let mut out = [0; OUT];
+        let start = Clock::start();
+        for batch in &self.batches {
+            let reply = sys::batch(
+                &mut framework,
+                words,
+                batch.time,
+                &batch.ours,
+                &self.tapes.chances[chance_at..],
+                &self.tapes.values[value_at..],
+                &mut out,
+            );
+            chance_at += reply.chance_used as usize;
+            value_at += reply.value_used as usize;
+            black_box(&out[..6 * reply.actions as usize]);
+        }
+        let time = self.per_batch(start);
+        assert_eq!(framework.current_time, self.batches[self.batches.len() - 1].time);
+        time
+    }
+
+    /// The same through the typed binding.
+    pub fn time_typed(&self) -> f64 {
+        let mut framework = self.ours.clone();
+        let (mut chance_at, mut value_at) = (0, self.values_at);
+        let mut out = Vec::new();
+        let start = Clock::start();
+        for batch in &self.batches {
+            let (chances, values) =
+                (&self.tapes.chances[chance_at..], &self.tapes.values[value_at..]);
+            let used = framework.batch(batch.time, &batch.typed, chances, values, &mut out);
+            let used = used.expect("accepted");
+            (chance_at, value_at) = (chance_at + used.chances, value_at + used.values);
+            black_box(&out);
+        }
+        self.per_batch(start)
+    }
+
+    /// The same with draws from a source, which the binding asks one by one.
+    pub fn time_source(&self) -> f64 {
+        let mut framework = self.ours.clone();
+        let mut source = Source { tapes: &self.tapes, chance_at: 0, value_at: self.values_at };
+        let start = Clock::start();
+        for batch in &self.batches {
+            let actions = framework.trigger_events(&batch.typed, batch.time, &mut source);
+            black_box(actions.expect("accepted"));
+        }
+        self.per_batch(start)
+    }
+
+    /// Nanoseconds for a batch that is refused as 18: the entry and the table check.
+    pub fn time_checked(&self) -> f64 {
+        time_refused(self.tables.words(), self.tables.num_machines() as u64 + 1, self.batches.len())
+    }
+
+    fn per_batch(&self, start: Clock) -> f64 {
+        start.nanoseconds() / self.batches.len() as f64
+    }
+}
+
+/// The tapes as a source.
+struct Source<'a> {
+    tapes: &'a Tapes,
+    chance_at: usize,
+    value_at: usize,
+}
+
+impl Draws for Source<'_> {
+    fn chance(&mut self) -> f32 {
+        self.chance_at += 1;
+        self.tapes.chances[self.chance_at - 1]
+    }
+
+    fn value(&mut self, _: &DistType) -> f64 {
+        self.value_at += 1;
+        self.tapes.values[self.value_at - 1]
+    }
+}
+
+/// Nanoseconds for a call that is refused as 18 after the check of these tables.
+pub fn time_refused(tables: Words<'_>, machines: u64, calls: usize) -> f64 {
+    let mut framework = sys::Framework::from_words([0; sys::FRAMEWORK_WORDS]);
+    framework.machines = machines;
+    let mut out = [0; OUT];
+    let start = Clock::start();
+    for time in 0..calls {
+        let time = time as u64;
+        let reply = sys::batch(black_box(&mut framework), tables, time, &[], &[], &[], &mut out);
+        assert_eq!(reply.refusal, 18);
+    }
+    start.nanoseconds() / calls as f64
+}
+
+/// Words that the checks 3 to 15 have to read: of a machine its fractions and its part of the state
+/// table; of a state its pairs, codes and distributions in use; both words of each transition.
+pub fn words_to_read(tables: Words<'_>) -> usize {
+    let dist = |words: &[u64]| if words[0] == 1 { 3 } else { 1 };
+    let counter = |words: &[u64]| if words[0] == 0 { 1 } else { 2 + dist(&words[2..]) };
+    let state = |row: &[u64]| {
+        let counts = (0..13).map(|event| row[33 + 2 * event] as usize);
+        let pairs: usize = counts.map(|count| if count == 0 { 1 } else { 2 + 2 * count }).sum();
+        let action = match row[0] {
+            0 => 1,
+            1 => 2,
+            2 => 2 + dist(&row[3..]) + dist(&row[13..]),
+            3 => 2 + dist(&row[3..]) + dist(&row[8..]) + dist(&row[13..]),
+            _ => 2 + dist(&row[8..]) + dist(&row[13..]),
+        };
+        pairs + action + counter(&row[18..]) + counter(&row[25..])
+    };
+    4 * tables.machines.len() / 6 + tables.states.chunks(58).map(state).sum::<usize>()
+}

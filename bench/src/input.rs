@@ -1,0 +1,123 @@
+//! What both sides run on: machines, events and draws from a fixed seed.
+
+use maybenot_link::action::Action;
+use maybenot_link::counter::{Counter, Operation};
+use maybenot_link::dist::{Dist, DistType};
+use maybenot_link::event::Event;
+use maybenot_link::state::{State, Trans};
+use maybenot_link::{Machine, MachineId, Timer, TriggerEvent};
+
+/// xorshift64*.
+pub struct Random(u64);
+
+impl Random {
+    pub fn new(seed: u64) -> Random {
+        Random(seed.wrapping_mul(0x9e37_79b9_7f4a_7c15) | 1)
+    }
+
+    fn word(&mut self) -> u64 {
+        self.0 ^= self.0 >> 12;
+        self.0 ^= self.0 << 25;
+        self.0 ^= self.0 >> 27;
+        self.0.wrapping_mul(0x2545_f491_4f6c_dd1d)
+    }
+
+    pub fn below(&mut self, n: usize) -> usize {
+        (self.word() >> 11) as usize % n
+    }
+
+    fn unit(&mut self) -> f64 {
+        (self.word() >> 11) as f64 / (1u64 << 53) as f64
+    }
+}
+
+/// Constant or drawn outside, so that every draw fits.
+fn dist(random: &mut Random) -> Dist {
+    match random.below(3) {
+        0 => Dist::constant(1.0 + random.below(50) as f64),
+        1 => Dist::new(DistType::Normal { mean: 0.0, stdev: 0.0 }, 0.0, 0.0),
+        _ => Dist::new(DistType::Normal { mean: 0.0, stdev: 0.0 }, 2.5, 60.0),
+    }
+}
+
+fn action(random: &mut Random) -> Option<Action> {
+    let (bypass, replace) = (random.below(2) == 0, random.below(2) == 0);
+    let limit = (random.below(2) == 0).then(|| dist(random));
+    match random.below(10) {
+        0 => None,
+        1 => Some(Action::Cancel { timer: Timer::All }),
+        2..=5 => Some(Action::SendPadding { bypass, replace, timeout: dist(random), limit }),
+        6..=7 => {
+            let (timeout, duration) = (dist(random), dist(random));
+            Some(Action::BlockOutgoing { bypass, replace, timeout, duration, limit })
+        }
+        _ => Some(Action::UpdateTimer { replace, duration: dist(random), limit }),
+    }
+}
+
+fn counter(random: &mut Random) -> Option<Counter> {
+    match random.below(6) {
+        0 => Some(Counter::new(Operation::Decrement)),
+        1 => Some(Counter::new_dist(Operation::Set, dist(random))),
+        2 => Some(Counter::new_copy(Operation::Increment)),
+        _ => None,
+    }
+}
+
+/// A state that goes to one of two states on every event but Signal.
+fn state(random: &mut Random, states: usize) -> State {
+    let row = |event: Event| {
+        let first = random.below(states);
+        let mut row = vec![Trans(first, 0.5)];
+        if states > 1 {
+            row.push(Trans((first + 1 + random.below(states - 1)) % states, 0.4));
+        }
+        (event, row)
+    };
+    let rows: Vec<_> =
+        Event::ALL.into_iter().filter(|event| *event != Event::Signal).map(row).collect();
+    let mut state = State::new(rows);
+    state.action = action(random);
+    state.counter = (counter(random), counter(random));
+    state
+}
+
+pub fn machines(count: usize, states: usize) -> Vec<Machine> {
+    let mut random = Random::new(1000 * count as u64 + states as u64);
+    (0..count)
+        .map(|_| {
+            let states = (0..states).map(|_| state(&mut random, states)).collect();
+            Machine::new(10, 0.75, 1000, 0.75, states).expect("a valid machine")
+        })
+        .collect()
+}
+
+/// Packets for the most part, with their padding, holds and timers.
+pub fn events(random: &mut Random, count: usize, machines: usize) -> Vec<TriggerEvent> {
+    let event = |random: &mut Random| {
+        let machine = MachineId::from_raw(random.below(machines.max(1)));
+        match random.below(16) {
+            0..=3 => TriggerEvent::NormalSent,
+            4..=6 => TriggerEvent::TunnelSent,
+            7..=8 => TriggerEvent::NormalRecv,
+            9..=10 => TriggerEvent::TunnelRecv,
+            11..=12 => TriggerEvent::PaddingSent { machine },
+            13 => TriggerEvent::BlockingBegin { machine },
+            14 => TriggerEvent::BlockingEnd,
+            _ => TriggerEvent::TimerBegin { machine },
+        }
+    };
+    (0..count).map(|_| event(random)).collect()
+}
+
+pub struct Tapes {
+    pub chances: Vec<f32>,
+    pub values: Vec<f64>,
+}
+
+pub fn tapes(random: &mut Random, chances: usize, values: usize) -> Tapes {
+    Tapes {
+        chances: (0..chances).map(|_| (random.word() >> 40) as f32 / (1u32 << 24) as f32).collect(),
+        values: (0..values).map(|_| 100.0 * random.unit()).collect(),
+    }
+}

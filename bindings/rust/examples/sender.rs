@@ -1,0 +1,346 @@
+//! A sender in simulated time: two machines, normal packets at random, timers, and draws from a seeded
+//! generator of its own. Prints a line for each action and, at the end, the budgets used.
+//!
+//! `cargo run --example sender -- [seed] [milliseconds]`
+
+use maybenot_link::action::Action;
+use maybenot_link::counter::{Counter, Operation};
+use maybenot_link::dist::{Dist, DistType};
+use maybenot_link::event::Event;
+use maybenot_link::state::{State, Trans};
+use maybenot_link::{
+    Draws, Framework, Invalid, Machine, MachineId, Refusal, Tables, Timer, TriggerAction,
+    TriggerEvent,
+};
+use std::error::Error;
+
+/// The framework's own limits: padding of all packets, blocking of all time.
+const MAX_PADDING_FRAC: f64 = 0.5;
+const MAX_BLOCKING_FRAC: f64 = 0.25;
+
+/// Microseconds between normal packets, on average.
+const GAP: f64 = 1500.0;
+
+/// Pads in bursts: a normal packet starts one, its length is the state's limit, and an internal timer
+/// ends the rest after it.
+fn padder() -> Result<Machine, Invalid> {
+    let waits = State::new([(Event::NormalSent, vec![Trans(1, 1.0)])]);
+    let pads = State::new([
+        (Event::NormalSent, vec![Trans(1, 0.5)]),
+        (Event::PaddingSent, vec![Trans(1, 1.0)]),
+        (Event::LimitReached, vec![Trans(2, 1.0)]),
+    ])
+    .with_action(Action::SendPadding {
+        bypass: false,
+        replace: false,
+        timeout: Dist::new(DistType::Gamma { scale: 1000.0, shape: 1.0 }, 100.0, 20_000.0),
+        limit: Some(Dist::uniform(2.0, 6.0)),
+    });
+    let rests =
+        State::new([(Event::TimerEnd, vec![Trans(0, 1.0)])]).with_action(Action::UpdateTimer {
+            replace: true,
+            duration: Dist::uniform(500.0, 2_000.0),
+            limit: None,
+        });
+    Machine::new(5, 0.4, 0, 0.0, vec![waits, pads, rests])
+}
+
+/// Holds outgoing traffic for a moment after some packets, six to ten of them.
+fn blocker() -> Result<Machine, Invalid> {
+    let starts = State::new([(Event::TunnelSent, vec![Trans(1, 1.0)])]);
+    let packets = Dist::uniform(6.0, 10.0);
+    let sets = State::new([(Event::TunnelSent, vec![Trans(2, 1.0)])])
+        .with_counter(Some(Counter::new_dist(Operation::Set, packets)), None);
+    let counts = State::new([
+        (Event::TunnelSent, vec![Trans(2, 1.0)]),
+        (Event::CounterZero, vec![Trans(3, 1.0)]),
+    ])
+    .with_counter(Some(Counter::new(Operation::Decrement)), None);
+    let holds = State::new([
+        (Event::BlockingEnd, vec![Trans(1, 1.0)]),
+        (Event::TunnelSent, vec![Trans(3, 0.25)]),
+    ])
+    .with_action(Action::BlockOutgoing {
+        bypass: false,
+        replace: false,
+        timeout: Dist::constant(50.0),
+        duration: Dist::uniform(500.0, 4_000.0),
+        limit: None,
+    });
+    Machine::new(0, 0.0, 10_000, 0.2, vec![starts, sets, counts, holds])
+}
+
+/// The sender's generator, xorshift64*.
+struct Source(u64);
+
+impl Source {
+    fn word(&mut self) -> u64 {
+        self.0 ^= self.0 >> 12;
+        self.0 ^= self.0 << 25;
+        self.0 ^= self.0 >> 27;
+        self.0.wrapping_mul(0x2545_f491_4f6c_dd1d)
+    }
+
+    /// From 0 to below 1.
+    fn unit(&mut self) -> f64 {
+        (self.word() >> 11) as f64 / (1u64 << 53) as f64
+    }
+
+    fn exponential(&mut self, mean: f64) -> f64 {
+        -mean * (1.0 - self.unit()).ln()
+    }
+}
+
+impl Draws for Source {
+    fn chance(&mut self) -> f32 {
+        (self.word() >> 40) as f32 / (1u32 << 24) as f32
+    }
+
+    fn value(&mut self, dist: &DistType) -> f64 {
+        match *dist {
+            // the product can round up to high, which is no draw of a Uniform
+            DistType::Uniform { low, high } => loop {
+                let drawn = low + (high - low) * self.unit();
+                if drawn < high {
+                    return drawn;
+                }
+            },
+            // a Gamma of shape 1 is exponential
+            DistType::Gamma { scale, shape: 1.0 } => self.exponential(scale),
+            ref other => unimplemented!("{other} is in no machine of this sender"),
+        }
+    }
+}
+
+/// What a machine's action timer does when it is due.
+#[derive(Clone, Copy)]
+enum Pending {
+    Padding { bypass: bool },
+    Blocking { duration: u64, bypass: bool, replace: bool },
+}
+
+#[derive(Clone, Copy, Default)]
+struct Timers {
+    action: Option<(u64, Pending)>,
+    internal: Option<u64>,
+}
+
+/// Blocking that is on.
+#[derive(Clone, Copy)]
+struct Blocking {
+    until: u64,
+    bypass: bool,
+}
+
+struct Sender {
+    framework: Framework,
+    source: Source,
+    time: u64,
+    next_normal: u64,
+    timers: Vec<Timers>,
+    blocking: Option<Blocking>,
+    /// Packets that wait for the end of blocking.
+    queued: usize,
+    /// Events for the next batch, which is now.
+    happened: Vec<TriggerEvent>,
+    // what the budgets count
+    normal: u64,
+    padding: Vec<u64>,
+    blocked: u64,
+    batches: u64,
+}
+
+impl Sender {
+    fn open(machines: &[Machine], seed: u64) -> Result<Sender, Box<dyn Error>> {
+        let mut source = Source(seed.wrapping_mul(0x9e37_79b9_7f4a_7c15) | 1);
+        let tables = Tables::new(machines)?;
+        let framework =
+            Framework::open(tables, MAX_PADDING_FRAC, MAX_BLOCKING_FRAC, 0, &mut source)?;
+        Ok(Sender {
+            framework,
+            source,
+            time: 0,
+            next_normal: 0,
+            timers: vec![Timers::default(); machines.len()],
+            blocking: None,
+            queued: 0,
+            happened: Vec::new(),
+            normal: 0,
+            padding: vec![0; machines.len()],
+            blocked: 0,
+            batches: 0,
+        })
+    }
+
+    /// The time of whatever comes next.
+    fn next(&self) -> u64 {
+        let timers = self.timers.iter().flat_map(|t| [t.action.map(|(due, _)| due), t.internal]);
+        let until = self.blocking.map(|blocking| blocking.until);
+        timers.chain([until]).flatten().fold(self.next_normal, u64::min)
+    }
+
+    /// Puts a packet on its way: at once, or in the queue while blocking is on.
+    fn send(&mut self, bypass: bool) {
+        match self.blocking {
+            Some(blocking) if !(bypass && blocking.bypass) => self.queued += 1,
+            _ => self.happened.push(TriggerEvent::TunnelSent),
+        }
+    }
+
+    /// Lets happen what is due now: timers, the end of blocking, a normal packet.
+    fn serve(&mut self) {
+        let now = self.time;
+        for k in 0..self.timers.len() {
+            let machine = MachineId::from_raw(k);
+            if self.timers[k].internal.is_some_and(|due| due <= now) {
+                self.timers[k].internal = None;
+                self.happened.push(TriggerEvent::TimerEnd { machine });
+            }
+            match self.timers[k].action {
+                Some((due, pending)) if due <= now => {
+                    self.timers[k].action = None;
+                    self.fire(machine, pending);
+                }
+                _ => {}
+            }
+        }
+        if self.blocking.is_some_and(|blocking| blocking.until <= now) {
+            self.blocking = None;
+            self.happened.push(TriggerEvent::BlockingEnd);
+            let waited = std::mem::take(&mut self.queued);
+            self.happened.extend(std::iter::repeat_n(TriggerEvent::TunnelSent, waited));
+        }
+        if self.next_normal <= now {
+            self.next_normal = now + 1 + self.source.exponential(GAP) as u64;
+            self.normal += 1;
+            self.happened.push(TriggerEvent::NormalSent);
+            self.send(false);
+        }
+    }
+
+    fn fire(&mut self, machine: MachineId, pending: Pending) {
+        match pending {
+            Pending::Padding { bypass } => {
+                self.padding[machine.into_raw()] += 1;
+                self.happened.push(TriggerEvent::PaddingSent { machine });
+                self.send(bypass);
+            }
+            Pending::Blocking { duration, bypass, replace } => {
+                let until = self.time + duration;
+                if self.blocking.is_none_or(|on| replace || on.until < until) {
+                    self.blocking = Some(Blocking { until, bypass });
+                }
+                self.happened.push(TriggerEvent::BlockingBegin { machine });
+            }
+        }
+    }
+
+    /// Hands over what happened, and does what the framework answers.
+    fn batch(&mut self) -> Result<(), Refusal> {
+        let happened = std::mem::take(&mut self.happened);
+        let actions =
+            self.framework.trigger_events(&happened, self.time, &mut self.source)?.to_vec();
+        self.batches += 1;
+        for action in actions {
+            self.act(action);
+        }
+        Ok(())
+    }
+
+    fn act(&mut self, action: TriggerAction) {
+        let (now, machine) = (self.time, action.machine());
+        print!("{now:>9}  machine {}  ", machine.into_raw());
+        let timers = &mut self.timers[machine.into_raw()];
+        match action {
+            TriggerAction::Cancel { timer, .. } => {
+                println!("Cancel {timer:?}");
+                if timer != Timer::Internal {
+                    timers.action = None;
+                }
+                if timer != Timer::Action {
+                    timers.internal = None;
+                }
+            }
+            TriggerAction::SendPadding { timeout, bypass, .. } => {
+                println!("SendPadding in {timeout}");
+                timers.action = Some((now + timeout, Pending::Padding { bypass }));
+            }
+            TriggerAction::BlockOutgoing { timeout, duration, bypass, replace, .. } => {
+                println!("BlockOutgoing in {timeout} for {duration}");
+                let pending = Pending::Blocking { duration, bypass, replace };
+                timers.action = Some((now + timeout, pending));
+            }
+            TriggerAction::UpdateTimer { duration, replace, .. } => {
+                println!("UpdateTimer to {duration}");
+                let due = now + duration;
+                if timers.internal.is_none_or(|old| replace || old < due) {
+                    timers.internal = Some(due);
+                    self.happened.push(TriggerEvent::TimerBegin { machine });
+                }
+            }
+        }
+    }
+
+    fn run(&mut self, end: u64) -> Result<(), Refusal> {
+        loop {
+            let next = self.next();
+            if next >= end {
+                return Ok(());
+            }
+            if self.blocking.is_some() {
+                self.blocked += next - self.time;
+            }
+            self.time = next;
+            self.serve();
+            while !self.happened.is_empty() {
+                self.batch()?;
+            }
+        }
+    }
+
+    /// Padding and blocking used, against what the limits allow.
+    fn print_budgets(&self, machines: &[Machine]) {
+        let padding: u64 = self.padding.iter().sum();
+        let packets = self.normal + padding;
+        println!(
+            "\n{} microseconds, {} batches, {} normal packets, {padding} padding",
+            self.time, self.batches, self.normal
+        );
+        for (k, (machine, &own)) in machines.iter().zip(&self.padding).enumerate() {
+            let (allowed, frac) = (machine.allowed_padding_packets, machine.max_padding_frac);
+            let of = self.normal + own;
+            if frac == 0.0 {
+                println!("machine {k}: {own} padding of {of} packets, no limit");
+                continue;
+            }
+            let within = own <= allowed + 2 || own as f64 - 2.0 < frac * of as f64;
+            println!(
+                "machine {k}: {own} padding of {of} packets, limit {frac} or {allowed} allowed: {}",
+                if within { "within" } else { "OVERDRAWN" }
+            );
+        }
+        let allowed: u64 = machines.iter().map(|m| m.allowed_padding_packets).sum();
+        let most = MAX_PADDING_FRAC * packets as f64 + (allowed + 4 * machines.len() as u64) as f64;
+        println!(
+            "all: {padding} padding of {packets} packets, limit {MAX_PADDING_FRAC}, at most {most}: {}",
+            if padding as f64 <= most { "within" } else { "OVERDRAWN" }
+        );
+        println!(
+            "blocked {} of {} microseconds ({:.3}), limit {MAX_BLOCKING_FRAC}",
+            self.blocked,
+            self.time,
+            self.blocked as f64 / self.time.max(1) as f64
+        );
+    }
+}
+
+fn main() -> Result<(), Box<dyn Error>> {
+    let mut args = std::env::args().skip(1).map(|arg| arg.parse::<u64>());
+    let seed = args.next().unwrap_or(Ok(1))?;
+    let milliseconds = args.next().unwrap_or(Ok(100))?;
+    let machines = [padder()?, blocker()?];
+    let mut sender = Sender::open(&machines, seed)?;
+    sender.run(1000 * milliseconds)?;
+    sender.print_budgets(&machines);
+    Ok(())
+}

@@ -1,0 +1,253 @@
+//! The C interface as it is: the structs of `bindings/c/maybenot.h` word for word, and its functions
+//! over slices.
+//!
+//! These functions are safe: whatever words, floats and lengths they are lent, they end, stay inside
+//! what they were lent and answer with a refusal where it does not fit. All lengths are free, so this
+//! is the layer at which an odd event list or a short output can be tried.
+
+use std::mem::{offset_of, size_of};
+
+/// At most so many machines.
+pub const MAX_MACHINES: usize = 16;
+/// Words of a row of the machine table.
+pub const MACHINE_WORDS: usize = 6;
+/// Words of a row of the state table.
+pub const STATE_WORDS: usize = 58;
+/// Words of a row of the transition table.
+pub const TRANSITION_WORDS: usize = 2;
+/// Words of an event.
+pub const EVENT_WORDS: usize = 2;
+/// Words of a row of the output.
+pub const ACTION_WORDS: usize = 6;
+/// Words of the framework.
+pub const FRAMEWORK_WORDS: usize = 11 + 9 * MAX_MACHINES;
+
+/// One machine's state.
+#[repr(C)]
+#[derive(Debug, Clone, Copy, PartialEq)]
+pub struct MachineRuntime {
+    pub current_state: u64,
+    pub state_limit: u64,
+    pub padding_sent: u64,
+    pub normal_sent: u64,
+    pub blocking_duration: u64,
+    pub machine_start: u64,
+    pub allowed_blocked_microsec: u64,
+    pub counter_a: u64,
+    pub counter_b: u64,
+}
+
+/// The framework, as the sender keeps it between calls. Every pattern of words is a value.
+#[repr(C)]
+#[derive(Debug, Clone, Copy, PartialEq)]
+pub struct Framework {
+    pub machines: u64,
+    pub current_time: u64,
+    pub max_padding_frac: f64,
+    pub normal_sent_packets: u64,
+    pub padding_sent_packets: u64,
+    pub max_blocking_frac: f64,
+    pub blocking_duration: u64,
+    pub blocking_started: u64,
+    /// On where it is not 0.
+    pub blocking_active: u64,
+    /// 0 none, 1 all machines, 2 + m all but machine m.
+    pub signal_pending: u64,
+    pub framework_start: u64,
+    pub runtime: [MachineRuntime; MAX_MACHINES],
+}
+
+/// The answer of an opening.
+#[repr(C)]
+#[derive(Debug, Clone, Copy, PartialEq)]
+pub struct Opened {
+    pub refusal: u64,
+    pub chance_used: u64,
+    pub value_used: u64,
+    pub framework: Framework,
+}
+
+/// The answer of a batch.
+#[repr(C)]
+#[derive(Debug, Clone, Copy, PartialEq, Eq)]
+pub struct Reply {
+    pub refusal: u64,
+    /// How many rows were written.
+    pub actions: u64,
+    pub chance_used: u64,
+    pub value_used: u64,
+}
+
+/// The three tables, lent.
+#[derive(Debug, Clone, Copy)]
+pub struct Words<'a> {
+    pub machines: &'a [u64],
+    pub states: &'a [u64],
+    pub transitions: &'a [u64],
+}
+
+// The numbers of maybenot.h and its test.
+const _: () = {
+    assert!(size_of::<usize>() == 8);
+    assert!(size_of::<MachineRuntime>() == 72);
+    assert!(offset_of!(MachineRuntime, current_state) == 0);
+    assert!(offset_of!(MachineRuntime, state_limit) == 8);
+    assert!(offset_of!(MachineRuntime, padding_sent) == 16);
+    assert!(offset_of!(MachineRuntime, normal_sent) == 24);
+    assert!(offset_of!(MachineRuntime, blocking_duration) == 32);
+    assert!(offset_of!(MachineRuntime, machine_start) == 40);
+    assert!(offset_of!(MachineRuntime, allowed_blocked_microsec) == 48);
+    assert!(offset_of!(MachineRuntime, counter_a) == 56);
+    assert!(offset_of!(MachineRuntime, counter_b) == 64);
+
+    assert!(size_of::<Framework>() == 88 + 16 * 72);
+    assert!(size_of::<Framework>() == 8 * FRAMEWORK_WORDS);
+    assert!(offset_of!(Framework, machines) == 0);
+    assert!(offset_of!(Framework, current_time) == 8);
+    assert!(offset_of!(Framework, max_padding_frac) == 16);
+    assert!(offset_of!(Framework, normal_sent_packets) == 24);
+    assert!(offset_of!(Framework, padding_sent_packets) == 32);
+    assert!(offset_of!(Framework, max_blocking_frac) == 40);
+    assert!(offset_of!(Framework, blocking_duration) == 48);
+    assert!(offset_of!(Framework, blocking_started) == 56);
+    assert!(offset_of!(Framework, blocking_active) == 64);
+    assert!(offset_of!(Framework, signal_pending) == 72);
+    assert!(offset_of!(Framework, framework_start) == 80);
+    assert!(offset_of!(Framework, runtime) == 88);
+
+    assert!(size_of::<Opened>() == 24 + size_of::<Framework>());
+    assert!(offset_of!(Opened, refusal) == 0);
+    assert!(offset_of!(Opened, chance_used) == 8);
+    assert!(offset_of!(Opened, value_used) == 16);
+    assert!(offset_of!(Opened, framework) == 24);
+
+    assert!(size_of::<Reply>() == 32);
+    assert!(offset_of!(Reply, refusal) == 0);
+    assert!(offset_of!(Reply, actions) == 8);
+    assert!(offset_of!(Reply, chance_used) == 16);
+    assert!(offset_of!(Reply, value_used) == 24);
+};
+
+impl Framework {
+    /// The framework as words, in the order of its fields: to store it, or to compare it bit by bit.
+    pub fn to_words(&self) -> [u64; FRAMEWORK_WORDS] {
+        // SAFETY: the struct is repr(C) of 8-byte numbers alone, of the same size (asserted above).
+        unsafe { std::mem::transmute(*self) }
+    }
+
+    /// The framework of these words. A call on one that no opening gave is refused as 18 or goes by
+    /// the numbers it finds.
+    pub fn from_words(words: [u64; FRAMEWORK_WORDS]) -> Framework {
+        // SAFETY: as above, and every pattern of words is a value of every field.
+        unsafe { std::mem::transmute(words) }
+    }
+}
+
+mod c {
+    use super::{Framework, Opened, Reply};
+
+    extern "C" {
+        pub fn maybenot_opening(
+            max_padding_frac: f64,
+            max_blocking_frac: f64,
+            time: u64,
+            machines: *const u64,
+            machines_len: usize,
+            states: *const u64,
+            states_len: usize,
+            transitions: *const u64,
+            transitions_len: usize,
+            values: *const f64,
+            values_len: usize,
+        ) -> Opened;
+
+        pub fn maybenot_batch(
+            framework: *mut Framework,
+            machines: *const u64,
+            machines_len: usize,
+            states: *const u64,
+            states_len: usize,
+            transitions: *const u64,
+            transitions_len: usize,
+            time: u64,
+            events: *const u64,
+            events_len: usize,
+            chances: *const f32,
+            chances_len: usize,
+            values: *const f64,
+            values_len: usize,
+            out: *mut u64,
+            out_len: usize,
+        ) -> Reply;
+
+        pub fn maybenot_all_machines_ended(framework: *const Framework) -> bool;
+    }
+}
+
+/// Opens a framework with the machines of these tables.
+pub fn opening(
+    max_padding_frac: f64,
+    max_blocking_frac: f64,
+    time: u64,
+    tables: Words<'_>,
+    values: &[f64],
+) -> Opened {
+    // SAFETY: each pointer comes with the length of its slice; the function reads inside these alone.
+    unsafe {
+        c::maybenot_opening(
+            max_padding_frac,
+            max_blocking_frac,
+            time,
+            tables.machines.as_ptr(),
+            tables.machines.len(),
+            tables.states.as_ptr(),
+            tables.states.len(),
+            tables.transitions.as_ptr(),
+            tables.transitions.len(),
+            values.as_ptr(),
+            values.len(),
+        )
+    }
+}
+
+/// Runs a batch of events on the framework and writes a row for each action to take. A refused call
+/// leaves the framework and the output as they were.
+#[allow(clippy::too_many_arguments)] // the C interface's own
+pub fn batch(
+    framework: &mut Framework,
+    tables: Words<'_>,
+    time: u64,
+    events: &[u64],
+    chances: &[f32],
+    values: &[f64],
+    out: &mut [u64],
+) -> Reply {
+    // SAFETY: each pointer comes with the length of its slice; the function reads inside these alone
+    // and writes inside the framework and the output, which are lent to nobody else.
+    unsafe {
+        c::maybenot_batch(
+            framework,
+            tables.machines.as_ptr(),
+            tables.machines.len(),
+            tables.states.as_ptr(),
+            tables.states.len(),
+            tables.transitions.as_ptr(),
+            tables.transitions.len(),
+            time,
+            events.as_ptr(),
+            events.len(),
+            chances.as_ptr(),
+            chances.len(),
+            values.as_ptr(),
+            values.len(),
+            out.as_mut_ptr(),
+            out.len(),
+        )
+    }
+}
+
+/// Whether every machine has ended; true with no machines.
+pub fn all_machines_ended(framework: &Framework) -> bool {
+    // SAFETY: the function reads the framework alone, and every pattern of words is a value of it.
+    unsafe { c::maybenot_all_machines_ended(framework) }
+}

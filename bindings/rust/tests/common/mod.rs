@@ -1,0 +1,187 @@
+//! What the tests share: a generator of random numbers, machines and events.
+#![allow(dead_code)]
+
+use maybenot_link::action::Action;
+use maybenot_link::constants::{STATE_END, STATE_SIGNAL};
+use maybenot_link::counter::{Counter, Operation};
+use maybenot_link::dist::{Dist, DistType};
+use maybenot_link::event::Event;
+use maybenot_link::state::{State, Trans};
+use maybenot_link::{Draws, Machine, MachineId, Timer, TriggerEvent};
+
+/// xorshift64*.
+#[derive(Clone)]
+pub struct Random(u64);
+
+impl Random {
+    pub fn new(seed: u64) -> Random {
+        Random(seed.wrapping_mul(0x9e37_79b9_7f4a_7c15) | 1)
+    }
+
+    pub fn word(&mut self) -> u64 {
+        self.0 ^= self.0 >> 12;
+        self.0 ^= self.0 << 25;
+        self.0 ^= self.0 >> 27;
+        self.0.wrapping_mul(0x2545_f491_4f6c_dd1d)
+    }
+
+    pub fn below(&mut self, n: usize) -> usize {
+        (self.word() >> 11) as usize % n
+    }
+
+    pub fn one_in(&mut self, n: usize) -> bool {
+        self.below(n) == 0
+    }
+
+    pub fn unit(&mut self) -> f64 {
+        (self.word() >> 11) as f64 / (1u64 << 53) as f64
+    }
+}
+
+impl Draws for Random {
+    fn chance(&mut self) -> f32 {
+        (self.word() >> 40) as f32 / (1u32 << 24) as f32
+    }
+
+    fn value(&mut self, dist: &DistType) -> f64 {
+        match *dist {
+            DistType::Uniform { low, high } => {
+                let drawn = low + (high - low) * self.unit();
+                if drawn < high {
+                    drawn
+                } else {
+                    low
+                }
+            }
+            _ if self.one_in(20) => {
+                [f64::NAN, f64::INFINITY, f64::NEG_INFINITY, 1e308, -1e308][self.below(5)]
+            }
+            _ => 20.0 * self.unit() - 3.0,
+        }
+    }
+}
+
+/// A machine of these states with no limits.
+pub fn free(states: Vec<State>) -> Machine {
+    Machine::new(0, 0.0, 0, 0.0, states).expect("a valid machine")
+}
+
+/// The smallest machine that pads: 10 microseconds after each normal packet.
+pub fn pads() -> Machine {
+    let (bypass, replace, limit) = (false, false, None);
+    let action = Action::SendPadding { bypass, replace, timeout: Dist::constant(10.0), limit };
+    free(vec![State::new([(Event::NormalSent, vec![Trans(0, 1.0)])]).with_action(action)])
+}
+
+/// Machines with all kinds of actions, counters, limits and transitions; `dist` makes each
+/// distribution.
+pub fn machines(
+    random: &mut Random,
+    count: usize,
+    states: usize,
+    dist: &mut dyn FnMut(&mut Random) -> Dist,
+) -> Vec<Machine> {
+    (0..count)
+        .map(|_| {
+            let states = (0..states).map(|_| state(random, states, dist)).collect();
+            let frac = |random: &mut Random| [0.0, 0.25, 0.5, 1.0][random.below(4)];
+            let (padding, blocking) = (frac(random), frac(random));
+            let allowed = random.below(10) as u64;
+            Machine::new(allowed, padding, 100 * allowed, blocking, states).expect("valid")
+        })
+        .collect()
+}
+
+fn state(random: &mut Random, states: usize, dist: &mut dyn FnMut(&mut Random) -> Dist) -> State {
+    let mut rows = Vec::new();
+    for event in Event::ALL {
+        if random.one_in(3) {
+            continue;
+        }
+        let mut targets: Vec<usize> = (0..states).collect();
+        if random.one_in(8) {
+            targets.push(STATE_SIGNAL);
+        }
+        if random.one_in(40) {
+            targets.push(STATE_END);
+        }
+        let first = random.below(targets.len());
+        let mut row = vec![Trans(targets[first], 0.5)];
+        let second = random.below(targets.len());
+        if second != first {
+            row.push(Trans(targets[second], 0.25));
+        }
+        rows.push((event, row));
+    }
+    let mut state = State::new(rows);
+    state.action = action(random, dist);
+    state.counter = (counter(random, dist), counter(random, dist));
+    state
+}
+
+fn action(random: &mut Random, dist: &mut dyn FnMut(&mut Random) -> Dist) -> Option<Action> {
+    let (bypass, replace) = (random.one_in(2), random.one_in(2));
+    let kind = random.below(9);
+    let limit = (kind > 1 && random.one_in(2)).then(|| dist(random));
+    match kind {
+        0 => None,
+        1 => Some(Action::Cancel {
+            timer: [Timer::Action, Timer::Internal, Timer::All][random.below(3)],
+        }),
+        2..=4 => Some(Action::SendPadding { bypass, replace, timeout: dist(random), limit }),
+        5..=6 => {
+            let (timeout, duration) = (dist(random), dist(random));
+            Some(Action::BlockOutgoing { bypass, replace, timeout, duration, limit })
+        }
+        _ => Some(Action::UpdateTimer { replace, duration: dist(random), limit }),
+    }
+}
+
+fn counter(random: &mut Random, dist: &mut dyn FnMut(&mut Random) -> Dist) -> Option<Counter> {
+    let operation = [Operation::Increment, Operation::Decrement, Operation::Set][random.below(3)];
+    match random.below(4) {
+        0 => None,
+        1 => Some(Counter::new(operation)),
+        2 => Some(Counter::new_dist(operation, dist(random))),
+        _ => {
+            let dist = random.one_in(2).then(|| dist(random));
+            Some(Counter { operation, dist, copy: random.one_in(2) })
+        }
+    }
+}
+
+/// A distribution of any type, many of them overlapping.
+pub fn any_dist(random: &mut Random) -> Dist {
+    let low = random.below(4) as f64;
+    let high = low + random.below(6) as f64;
+    let dist = match random.below(6) {
+        0..=2 => DistType::Uniform { low, high },
+        3 => DistType::Normal { mean: low, stdev: high },
+        4 => DistType::Pareto { scale: low, shape: high },
+        _ => DistType::Poisson { lambda: low },
+    };
+    let start = [0.0, 0.0, 1.5, -2.0][random.below(4)];
+    let max = [0.0, 0.0, 3.0][random.below(3)];
+    Dist::new(dist, start, max)
+}
+
+/// Some events, of known machines and at times an unknown one.
+pub fn events(random: &mut Random, count: usize, machines: usize) -> Vec<TriggerEvent> {
+    (0..count)
+        .map(|_| {
+            let machine = MachineId::from_raw(random.below(machines + 1));
+            match random.below(12) {
+                0 => TriggerEvent::NormalRecv,
+                1 => TriggerEvent::PaddingRecv,
+                2 => TriggerEvent::TunnelRecv,
+                3 | 4 => TriggerEvent::NormalSent,
+                5 | 6 => TriggerEvent::PaddingSent { machine },
+                7 => TriggerEvent::TunnelSent,
+                8 => TriggerEvent::BlockingBegin { machine },
+                9 => TriggerEvent::BlockingEnd,
+                10 => TriggerEvent::TimerBegin { machine },
+                _ => TriggerEvent::TimerEnd { machine },
+            }
+        })
+        .collect()
+}
