@@ -1,2 +1,4 @@
 pub mod All
+pub mod Counts
+pub mod Turns
 pub mod Written

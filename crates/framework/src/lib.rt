@@ -2,4 +2,5 @@
 // all_machines_ended.
 pub mod account; // what an event counts, and whose turn it is
 pub mod checks; // refusals 18 and 19
+pub mod events; // the events of a batch in order
 pub mod rows; // the output rows
