@@ -1,4 +1,5 @@
 pub mod All
 pub mod Counts
+pub mod Heard
 pub mod Turns
 pub mod Written

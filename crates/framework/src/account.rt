@@ -1,14 +1,18 @@
 // process_event of framework.rs, but for the machines' transitions: what an event counts, and which
 // machines hear it. Each function takes the numbers that it reads and never the framework.
+use machine::constants::MACHINE_WORDS;
 use machine::event::BLOCKING_BEGIN;
 use machine::event::BLOCKING_END;
 use machine::event::NORMAL_SENT;
 use machine::event::PADDING_SENT;
+use machine::state::state_rows;
 use machine::state::word;
 use steps::Context;
 ghost use mathlib.Core.Path.{_≡_};
 ghost use Prim.Native.Nat.{_+_, _≤_, _<_};
-ghost use Rattle.steps.specs.Events.{ownOnly, limitFalls, firstFor, turnsFor};
+ghost use Rattle.machine.specs.Constants.{stateWords, firstState, numStates};
+ghost use Rattle.machine.specs.State.{rowsOf};
+ghost use Rattle.steps.specs.Events.{ownOnly, limitFalls, firstFor, turnsFor, machineWord};
 ghost use Rattle.framework.specs.Account.{blockedSince, normalAfter, paddingAfter, durationAfter, startedAfter, activeAfter, contextFrom};
 
 // TimerBegin and TimerEnd among the kinds of `TriggerEvent`.
@@ -147,6 +151,15 @@ pub fn limit_falls(kind: u64, machine: u64, m: u64) -> bool
 
 // ---- what a machine's transition reads
 
+// A machine's own part of the state table.
+pub fn states_of<'a>(machines: &[u64], states: &'a [u64], m: usize) -> &'a [u64]
+    requires { ⌜ m < 16 ⌝ }
+    ensures { λ r. ⌜ now r ≡ rowsOf stateWords (now (states .entry)) (machineWord (now (machines .entry)) m firstState) (machineWord (now (machines .entry)) m numStates) ⌝ }
+{
+    let at = m * MACHINE_WORDS;
+    state_rows(states, word(machines, at + 4), word(machines, at + 5))
+}
+
 // Of the machine's row, and of the framework's own numbers.
 pub fn context_from(
     machines: &[u64],
@@ -164,7 +177,7 @@ pub fn context_from(
     requires { ⌜ m < 16 ⌝ }
     ensures { λ r. ⌜ r ≡ contextFrom (now (machines .entry)) m «current_time» «max_padding_frac» «normal_sent_packets» «padding_sent_packets» «max_blocking_frac» «blocking_duration» «blocking_started» «blocking_active» «framework_start» ⌝ }
 {
-    let at = m * 6;
+    let at = m * MACHINE_WORDS;
     let allowed_padding_packets = word(machines, at);
     let machine_padding_frac = numbers::f64_of_word(word(machines, at + 1));
     let machine_blocking_frac = numbers::f64_of_word(word(machines, at + 3));

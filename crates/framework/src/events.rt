@@ -9,8 +9,7 @@ use super::account::limit_falls;
 use super::account::normal_after;
 use super::account::padding_after;
 use super::account::started_after;
-use machine::state::state_rows;
-use machine::state::word;
+use super::account::states_of;
 use steps::Framework;
 use steps::Ran;
 use steps::Shared;
@@ -82,8 +81,7 @@ pub fn run_events(
     let mut blocked = 0;
     loop {
         if m < end {
-            let at = m * 6;
-            let rows = state_rows(states, word(machines, at + 4), word(machines, at + 5));
+            let rows = states_of(machines, states, m);
             let c = context_from(
                 machines,
                 m,

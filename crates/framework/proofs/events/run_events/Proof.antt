@@ -35,50 +35,35 @@ loop-holds c =
     let T = tables (a .machines .now) (a .states .now) (a .transitions .now) in let D = tapes (a .chances .now) (a .values .now) in
     (omega arith, omega arith, λ h. omega (arith, h), refl, rw (c .before .no-action .ensures, c .shared-from .ensures) (ahead-all T D es (length es / 2) (begin (a .fw) (a .time))))
 
-mul-at : tie.Need-mul-at Inv-loop μ-loop
-mul-at c = omega (arith, c .before .loop .inv .2 (c .if1 .taken), c .if1 .taken)
-
-add-word : tie.Need-add-word Inv-loop μ-loop
-add-word c = omega (arith, c .before .loop .inv .2 (c .if1 .taken), c .if1 .taken)
-
-word-requires : tie.Need-word-requires Inv-loop μ-loop
-word-requires c κs = search needs
-
-add-word-2 : tie.Need-add-word-2 Inv-loop μ-loop
-add-word-2 c = omega (arith, c .before .before .loop .inv .2 (c .before .if1 .taken), c .before .if1 .taken)
-
-word-requires-2 : tie.Need-word-requires-2 Inv-loop μ-loop
-word-requires-2 c κs = search needs
-
-state-rows-requires : tie.Need-state-rows-requires Inv-loop μ-loop
-state-rows-requires c κs = search needs
+states-of-requires : tie.Need-states-of-requires Inv-loop μ-loop
+states-of-requires c κs = omega (arith, c .before .loop .inv .2 (c .if1 .taken), c .if1 .taken)
 
 context-from-requires : tie.Need-context-from-requires Inv-loop μ-loop
 context-from-requires c κs =
-    omega (arith, c .before .before .before .before .loop .inv .2 (c .before .before .before .if1 .taken), c .before .before .before .if1 .taken)
+    omega (arith, c .before .before .loop .inv .2 (c .before .if1 .taken), c .before .if1 .taken)
 
 limit-falls-requires : tie.Need-limit-falls-requires Inv-loop μ-loop
 limit-falls-requires c κs = search needs
 
 mul-r : tie.Need-mul-r Inv-loop μ-loop
 mul-r c =
-    omega (arith, c .before .before .before .before .before .before .loop .inv .2 (c .before .before .before .before .before .if1 .taken), c .before .before .before .before .before .if1 .taken)
+    omega (arith, c .before .before .before .before .loop .inv .2 (c .before .before .before .if1 .taken), c .before .before .before .if1 .taken)
 
 element-copy-out-r : tie.Need-element-copy-out-r Inv-loop μ-loop
 element-copy-out-r c =
-    omega (arith, c .before .before .before .before .before .before .loop .inv .2 (c .before .before .before .before .before .if1 .taken), c .before .before .before .before .before .if1 .taken)
+    omega (arith, c .before .before .before .before .loop .inv .2 (c .before .before .before .if1 .taken), c .before .before .before .if1 .taken)
 
 mul-p : tie.Need-mul-p Inv-loop μ-loop
 mul-p c =
-    omega (arith, c .before .before .before .before .before .before .before .loop .inv .2 (c .before .before .before .before .before .before .if1 .taken), c .before .before .before .before .before .before .if1 .taken)
+    omega (arith, c .before .before .before .before .before .loop .inv .2 (c .before .before .before .before .if1 .taken), c .before .before .before .before .if1 .taken)
 
 array-copy-out-p : tie.Need-array-copy-out-p Inv-loop μ-loop
 array-copy-out-p c =
-    omega (arith, c .before .before .before .before .before .before .before .loop .inv .2 (c .before .before .before .before .before .before .if1 .taken), c .before .before .before .before .before .before .if1 .taken)
+    omega (arith, c .before .before .before .before .before .loop .inv .2 (c .before .before .before .before .if1 .taken), c .before .before .before .before .if1 .taken)
 
 turn-requires : tie.Need-turn-requires Inv-loop μ-loop
 turn-requires c κs =
-    (c .before .before .before .before .before .before .before .before .loop .inv .1, rw (c .before .before .before .context-from .ensures) (omega (arith, c .before .before .before .before .before .before .before .before .loop .inv .2 (c .before .before .before .before .before .before .before .if1 .taken), c .before .before .before .before .before .before .before .if1 .taken)))
+    (c .before .before .before .before .before .before .loop .inv .1, rw (c .before .before .before .context-from .ensures) (omega (arith, c .before .before .before .before .before .before .loop .inv .2 (c .before .before .before .before .before .if1 .taken), c .before .before .before .before .before .if1 .taken)))
 
 enum-known-x : tie.Need-enum-known-x Inv-loop μ-loop
 enum-known-x c = search needs
@@ -88,44 +73,44 @@ shared-from-requires-2 c κs = search needs
 
 returns : tie.Need-returns Inv-loop μ-loop
 returns c =
-    let a = c .before .before .before .before .before .before .before .before .before .before .before .before .before .before .before .before .before .before .before .before .before .before .args in let l = c .before .before .before .before .before .before .before .before .before .before .before .before .before .loop in let es = a .events .now in
+    let a = c .before .before .before .before .before .before .before .before .before .before .before .before .before .before .before .before .before .before .before .before .args in let l = c .before .before .before .before .before .before .before .before .before .before .before .loop in let es = a .events .now in
     let T = tables (a .machines .now) (a .states .now) (a .transitions .now) in let D = tapes (a .chances .now) (a .values .now) in
-    (rw (l .inv .4 ∙ ahead-stops T D es (length es / 2) (l .kind) (l .machine) (l .blocked) (l .m) (l .end) (l .i) (l .f) (l .actions) (l .s) (c .before .before .before .before .before .before .before .before .before .before .before .before .if1 .taken) _ (sym (rw (c .before .before .before .before .before .before .before .before .before .state-rows .ensures, c .before .before .before .before .before .before .before .before .before .before .before .word .ensures, c .before .before .before .before .before .before .before .before .before .before .word2 .ensures, c .before .before .before .before .before .before .before .before .context-from .ensures, c .before .before .before .before .before .before .before .limit-falls .ensures) at (c .before .before .before .before .turn .ensures)) ∙ c .before .before .x .given .1),
-    c .before .before .before .before .before .before .before .before .before .before .before .before .before .before .before .no-action .ensures, c .shared-from2 .ensures), refl)
+    (rw (l .inv .4 ∙ ahead-stops T D es (length es / 2) (l .kind) (l .machine) (l .blocked) (l .m) (l .end) (l .i) (l .f) (l .actions) (l .s) (c .before .before .before .before .before .before .before .before .before .before .if1 .taken) _ (sym (rw (c .before .before .before .before .before .before .before .before .before .states-of .ensures, c .before .before .before .before .before .before .before .before .context-from .ensures, c .before .before .before .before .before .before .before .limit-falls .ensures) at (c .before .before .before .before .turn .ensures)) ∙ c .before .before .x .given .1),
+    c .before .before .before .before .before .before .before .before .before .before .before .before .before .no-action .ensures, c .shared-from2 .ensures), refl)
 
 enum-known-x-2 : tie.Need-enum-known-x-2 Inv-loop μ-loop
 enum-known-x-2 c = search needs
 
 mul-r2 : tie.Need-mul-r2 Inv-loop μ-loop
 mul-r2 c =
-    omega (arith, c .before .before .before .before .before .before .before .before .before .before .before .before .before .before .loop .inv .2 (c .before .before .before .before .before .before .before .before .before .before .before .before .before .if1 .taken), c .before .before .before .before .before .before .before .before .before .before .before .before .before .if1 .taken)
+    omega (arith, c .before .before .before .before .before .before .before .before .before .before .before .before .loop .inv .2 (c .before .before .before .before .before .before .before .before .before .before .before .if1 .taken), c .before .before .before .before .before .before .before .before .before .before .before .if1 .taken)
 
 element-set-from-r2 : tie.Need-element-set-from-r2 Inv-loop μ-loop
 element-set-from-r2 c =
-    omega (arith, c .before .before .before .before .before .before .before .before .before .before .before .before .before .before .loop .inv .2 (c .before .before .before .before .before .before .before .before .before .before .before .before .before .if1 .taken), c .before .before .before .before .before .before .before .before .before .before .before .before .before .if1 .taken)
+    omega (arith, c .before .before .before .before .before .before .before .before .before .before .before .before .loop .inv .2 (c .before .before .before .before .before .before .before .before .before .before .before .if1 .taken), c .before .before .before .before .before .before .before .before .before .before .before .if1 .taken)
 
 mul-actions : tie.Need-mul-actions Inv-loop μ-loop
 mul-actions c =
-    omega (arith, c .before .before .before .before .before .before .before .before .before .before .before .before .before .before .loop .inv .2 (c .before .before .before .before .before .before .before .before .before .before .before .before .before .if1 .taken), c .before .before .before .before .before .before .before .before .before .before .before .before .before .if1 .taken)
+    omega (arith, c .before .before .before .before .before .before .before .before .before .before .before .before .loop .inv .2 (c .before .before .before .before .before .before .before .before .before .before .before .if1 .taken), c .before .before .before .before .before .before .before .before .before .before .before .if1 .taken)
 
 array-set-from-actions : tie.Need-array-set-from-actions Inv-loop μ-loop
 array-set-from-actions c =
-    omega (arith, c .before .before .before .before .before .before .before .before .before .before .before .before .before .before .loop .inv .2 (c .before .before .before .before .before .before .before .before .before .before .before .before .before .if1 .taken), c .before .before .before .before .before .before .before .before .before .before .before .before .before .if1 .taken)
+    omega (arith, c .before .before .before .before .before .before .before .before .before .before .before .before .loop .inv .2 (c .before .before .before .before .before .before .before .before .before .before .before .if1 .taken), c .before .before .before .before .before .before .before .before .before .before .before .if1 .taken)
 
 add-m : tie.Need-add-m Inv-loop μ-loop
 add-m c =
-    omega (arith, c .before .before .before .before .before .before .before .before .before .before .before .before .before .before .before .loop .inv .2 (c .before .before .before .before .before .before .before .before .before .before .before .before .before .before .if1 .taken), c .before .before .before .before .before .before .before .before .before .before .before .before .before .before .if1 .taken)
+    omega (arith, c .before .before .before .before .before .before .before .before .before .before .before .before .before .loop .inv .2 (c .before .before .before .before .before .before .before .before .before .before .before .before .if1 .taken), c .before .before .before .before .before .before .before .before .before .before .before .before .if1 .taken)
 
 loop-less : tie.Need-loop-less Inv-loop μ-loop
 loop-less c =
-    omega (arith, c .before .before .before .before .before .before .before .before .before .before .before .before .before .before .if1 .taken)
+    omega (arith, c .before .before .before .before .before .before .before .before .before .before .before .before .if1 .taken)
 
 loop-again : tie.Need-loop-again Inv-loop μ-loop
 loop-again c =
-    let a = c .before .before .before .before .before .before .before .before .before .before .before .before .before .before .before .before .before .before .before .before .before .before .before .before .args in let l = c .before .before .before .before .before .before .before .before .before .before .before .before .before .before .before .loop in let es = a .events .now in
+    let a = c .before .before .before .before .before .before .before .before .before .before .before .before .before .before .before .before .before .before .before .before .before .before .args in let l = c .before .before .before .before .before .before .before .before .before .before .before .before .before .loop in let es = a .events .now in
     let T = tables (a .machines .now) (a .states .now) (a .transitions .now) in let D = tapes (a .chances .now) (a .values .now) in
-    (l .inv .0, l .inv .1, λ h. l .inv .2 (c .before .before .before .before .before .before .before .before .before .before .before .before .before .before .if1 .taken), l .inv .3,
-    l .inv .4 ∙ ahead-turn T D es (length es / 2) (l .kind) (l .machine) (l .blocked) (l .m) (l .end) (l .i) (l .f) (l .actions) (l .s) (c .before .before .before .before .before .before .before .before .before .before .before .before .before .before .if1 .taken) _ (sym (rw (c .before .before .before .before .before .before .before .before .before .before .before .state-rows .ensures, c .before .before .before .before .before .before .before .before .before .before .before .before .before .word .ensures, c .before .before .before .before .before .before .before .before .before .before .before .before .word2 .ensures, c .before .before .before .before .before .before .before .before .before .before .context-from .ensures, c .before .before .before .before .before .before .before .before .before .limit-falls .ensures) at (c .before .before .before .before .before .before .turn .ensures)) ∙ c .before .before .before .before .x2 .given .1))
+    (l .inv .0, l .inv .1, λ h. l .inv .2 (c .before .before .before .before .before .before .before .before .before .before .before .before .if1 .taken), l .inv .3,
+    l .inv .4 ∙ ahead-turn T D es (length es / 2) (l .kind) (l .machine) (l .blocked) (l .m) (l .end) (l .i) (l .f) (l .actions) (l .s) (c .before .before .before .before .before .before .before .before .before .before .before .before .if1 .taken) _ (sym (rw (c .before .before .before .before .before .before .before .before .before .before .before .states-of .ensures, c .before .before .before .before .before .before .before .before .before .before .context-from .ensures, c .before .before .before .before .before .before .before .before .before .limit-falls .ensures) at (c .before .before .before .before .before .before .turn .ensures)) ∙ c .before .before .before .before .x2 .given .1))
 
 returns-2 : tie.Need-returns-2 Inv-loop μ-loop
 returns-2 c =
@@ -207,12 +192,7 @@ run-events-spec =
     no-action-requires
     shared-from-requires
     loop-holds
-    mul-at
-    add-word
-    word-requires
-    add-word-2
-    word-requires-2
-    state-rows-requires
+    states-of-requires
     context-from-requires
     limit-falls-requires
     mul-r
