@@ -1,5 +1,7 @@
 pub mod All
+pub mod Checked
 pub mod Counts
 pub mod Heard
+pub mod Opens
 pub mod Turns
 pub mod Written
