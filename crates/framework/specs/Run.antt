@@ -20,6 +20,9 @@ tapes chances values = record { chances = chances; values = values }
 abbrev pub run : Framework → List TriggerAction → Shared → Run
 run fw actions s = record { framework = fw; actions = actions; shared = s }
 
+abbrev pub runOf : Ran → Run
+runOf r = run (r .framework) (r .actions) (r .shared)
+
 -- before the first event: no actions
 abbrev pub entered : Framework → Run
 entered fw = run fw noActions (sharedFrom (fw .«signal_pending»))

@@ -23,7 +23,8 @@ ghost use lib.ListN.{length};
 ghost use Rattle.steps.specs.Transition.{noAction};
 ghost use Rattle.steps.specs.Events.{each, eventTurn};
 ghost use Rattle.steps.specs.Framework.{sharedFrom, begin, kindsFit};
-ghost use Rattle.framework.specs.Run.{tables, tapes, entered, ranFrom};
+ghost use Rattle.steps.specs.declared.Verdict.the-variants.{Stopped};
+ghost use Rattle.framework.specs.Run.{tables, tapes, entered, ran, ranFrom};
 
 pub fn no_action() -> TriggerAction
     ensures { λ r. ⌜ r ≡ noAction ⌝ }
@@ -47,6 +48,21 @@ pub fn shared_from(signal_pending: u64) -> Shared
         counter_b_zeroed: false,
         chance_at: 0,
         value_at: 0,
+    }
+}
+
+// A run that was stopped: all as it was when it began.
+pub fn stopped(fw: Framework, refusal: u64) -> Ran
+    ensures { λ r. ⌜ r ≡ ran (Stopped refusal) (entered fw) ⌝ }
+{
+    let none = no_action();
+    let actions = [none; 16];
+    let s = shared_from(fw.signal_pending);
+    Ran {
+        verdict: Verdict::Stopped(refusal),
+        framework: fw,
+        actions: actions,
+        shared: s,
     }
 }
 
@@ -103,14 +119,7 @@ pub fn run_events(
             );
             match x {
                 Stepped::Refused(why) => {
-                    let before = [none; 16];
-                    let first = shared_from(fw.signal_pending);
-                    return Ran {
-                        verdict: Verdict::Stopped(why),
-                        framework: fw,
-                        actions: before,
-                        shared: first,
-                    };
+                    return stopped(fw, why);
                 }
                 Stepped::Done(d) => {
                     let r2 = d.runtime;

@@ -7,6 +7,7 @@ use native.Mathlib.Omega.{arith}
 use lib.ListN.{length}
 use Rattle.steps.specs.Events.{each, eventTurn}
 use Rattle.steps.specs.Framework.{begin}
+use Rattle.steps.specs.declared.Ran.{Ran}
 use Rattle.framework.specs.Run.{tables, tapes, run}
 use Rattle.framework.proofs.Counts.{kind-fits}
 use Rattle.framework.proofs.Turns.{ahead, ahead-all, ahead-turn, ahead-stops, ahead-ends, ahead-taken}
@@ -14,13 +15,13 @@ use Rattle.framework.proofs.events.run_events.Statement.{statement}
 use Rattle.framework.proofs.events.run_events.Tie as tie
 
 abbrev Inv-loop : tie.InvT-loop
-Inv-loop fw machines states transitions time events chances values none f₀ actions₀ s₀ n i₀ m₀ end₀ kind₀ machine₀ blocked₀ f actions s i m end kind machine blocked =
+Inv-loop fw machines states transitions time events chances values f₀ actions₀ s₀ n i₀ m₀ end₀ kind₀ machine₀ blocked₀ f actions s i m end kind machine blocked =
     (i ≤ n) × (kind ≤ 9) × (m < end → end ≤ 16) × (f .machines ≡ fw .machines) ×
     (each (eventTurn (tables machines states transitions) (tapes chances values) events) n 0 (begin fw time)
     ≡ ahead (tables machines states transitions) (tapes chances values) events n kind machine blocked m end i (run f actions s))
 
 abbrev μ-loop : tie.MeasureT-loop
-μ-loop fw machines states transitions time events chances values none f₀ actions₀ s₀ n i₀ m₀ end₀ kind₀ machine₀ blocked₀ f actions s i m end kind machine blocked =
+μ-loop fw machines states transitions time events chances values f₀ actions₀ s₀ n i₀ m₀ end₀ kind₀ machine₀ blocked₀ f actions s i m end kind machine blocked =
     (n - i) * 17 + (end - m)
 
 no-action-requires : tie.Need-no-action-requires Inv-loop μ-loop
@@ -68,15 +69,14 @@ turn-requires c κs =
 enum-known-x : tie.Need-enum-known-x Inv-loop μ-loop
 enum-known-x c = search needs
 
-shared-from-requires-2 : tie.Need-shared-from-requires-2 Inv-loop μ-loop
-shared-from-requires-2 c κs = search needs
+stopped-requires : tie.Need-stopped-requires Inv-loop μ-loop
+stopped-requires c κs = search needs
 
 returns : tie.Need-returns Inv-loop μ-loop
 returns c =
     let a = c .before .before .before .before .before .before .before .before .before .before .before .before .before .before .before .before .before .before .before .before .args in let l = c .before .before .before .before .before .before .before .before .before .before .before .loop in let es = a .events .now in
     let T = tables (a .machines .now) (a .states .now) (a .transitions .now) in let D = tapes (a .chances .now) (a .values .now) in
-    (rw (l .inv .4 ∙ ahead-stops T D es (length es / 2) (l .kind) (l .machine) (l .blocked) (l .m) (l .end) (l .i) (l .f) (l .actions) (l .s) (c .before .before .before .before .before .before .before .before .before .before .if1 .taken) _ (sym (rw (c .before .before .before .before .before .before .before .before .before .states-of .ensures, c .before .before .before .before .before .before .before .before .context-from .ensures, c .before .before .before .before .before .before .before .limit-falls .ensures) at (c .before .before .before .before .turn .ensures)) ∙ c .before .before .x .given .1),
-    c .before .before .before .before .before .before .before .before .before .before .before .before .before .no-action .ensures, c .shared-from2 .ensures), refl)
+    (rw (l .inv .4 ∙ ahead-stops T D es (length es / 2) (l .kind) (l .machine) (l .blocked) (l .m) (l .end) (l .i) (l .f) (l .actions) (l .s) (c .before .before .before .before .before .before .before .before .before .before .if1 .taken) _ (sym (rw (c .before .before .before .before .before .before .before .before .before .states-of .ensures, c .before .before .before .before .before .before .before .before .context-from .ensures, c .before .before .before .before .before .before .before .limit-falls .ensures) at (c .before .before .before .before .turn .ensures)) ∙ c .before .before .x .given .1)) (c .stopped .ensures), ap (λ (n : Ran). n .framework .machines) (c .stopped .ensures))
 
 enum-known-x-2 : tie.Need-enum-known-x-2 Inv-loop μ-loop
 enum-known-x-2 c = search needs
@@ -201,7 +201,7 @@ run-events-spec =
     array-copy-out-p
     turn-requires
     enum-known-x
-    shared-from-requires-2
+    stopped-requires
     returns
     enum-known-x-2
     mul-r2
