@@ -1,0 +1,64 @@
+-- Refusals in order, and what holds where there is none.
+use Prim.Native.Nat.{ℕ, _*_, _/_, _≤_, min}
+use mathlib.Core.Path.{_≡_, refl, sym, _∙_}
+use mathlib.Core.List.{List}
+use mathlib.Core.Bool.{Bool, true, false, false≢true, cond, _&&_}
+use mathlib.Core.Logic.{⊎-elim}
+use native.Mathlib.Omega.{arith}
+use lib.Dec.{eqb, ltb}
+use lib.ListN.{length}
+use borrow.Author.Tests.{eq-eqb, ne-eqb, eqb-true, eqb-false, leb-true, ltb-false}
+use Rattle.machine.specs.Constants.{machineMax}
+use Rattle.tables.specs.First.{orElse}
+use Rattle.tables.specs.Machine.{wholeTables, tablesRefusal}
+use Rattle.steps.specs.Events.{Tables, numMachines}
+use Rattle.steps.specs.Framework.{rowsIn, statesFit, fitsTables, kindsFit, eventsFit, batchRefusal}
+use Rattle.steps.specs.declared.Framework.{Framework}
+use Rattle.framework.proofs.All.{bool-cases}
+
+pub first-is : (a b : ℕ) → (a ≡ 0 → ⊥) → orElse a b ≡ a
+unfolding orElse
+first-is a b h = rw (ne-eqb _ _ h)
+
+pub then-is : (a b : ℕ) → a ≡ 0 → orElse a b ≡ b
+unfolding orElse
+then-is a b e = rw (eq-eqb a 0 e)
+
+-- a test whose failure is refused with n
+passes : (b : Bool) (x n : ℕ) → (n ≡ 0 → ⊥) → cond b x n ≡ 0 → (b ≡ true) × (x ≡ 0)
+passes true x n h e = (refl, e)
+passes false x n h e = absurd (h e)
+
+-- a test whose success is refused with n
+passes-not : (b : Bool) (n : ℕ) → (n ≡ 0 → ⊥) → cond b n 0 ≡ 0 → b ≡ false
+passes-not true n h e = absurd (h e)
+passes-not false n h e = refl
+
+both : (a b : Bool) → (a && b) ≡ true → (a ≡ true) × (b ≡ true)
+both true b e = (refl, e)
+both false b e = absurd (false≢true e)
+
+pub none-then : (a b : ℕ) → orElse a b ≡ 0 → b ≡ 0
+unfolding orElse
+none-then a b e =
+    ⊎-elim
+    (λ (z : eqb a 0 ≡ true). rw z at e)
+    (λ (z : eqb a 0 ≡ false). absurd (eqb-false a 0 z (rw z at e)))
+    (bool-cases (eqb a 0))
+
+pub few-machines : (machines states transitions : List ℕ) → tablesRefusal machines states transitions ≡ 0 → rowsIn machines ≤ 16
+unfolding tablesRefusal
+few-machines machines states transitions e =
+    leb-true _ _ (both _ _ (passes (wholeTables machines states transitions) _ 3 (λ z. omega (arith, z)) e .0) .1)
+
+-- a batch that is not refused before it runs: its kinds are known, and its output has room for a row of each machine
+pub batch-passes : (fw : Framework) (T : Tables) (es out : List ℕ) → batchRefusal fw T es out ≡ 0 →
+    (kindsFit es (length es / 2) ≡ true) × (6 * numMachines fw ≤ length out)
+unfolding batchRefusal fitsTables eventsFit
+batch-passes fw T es out e =
+    let after = none-then _ _ e in
+    let fits = passes _ _ 18 (λ z. omega (arith, z)) after in
+    let events = passes _ _ 19 (λ z. omega (arith, z)) (fits .1) in
+    let room = passes-not _ 20 (λ z. omega (arith, z)) (events .1) in
+    let count : fw .machines ≡ rowsIn (T .machines) = eqb-true _ _ (both _ _ (both _ _ (fits .0) .0) .0) in
+    (both _ _ (events .0) .1, omega (arith, ltb-false _ _ room, count))

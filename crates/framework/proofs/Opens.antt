@@ -1,0 +1,38 @@
+-- The opening, a machine at a time.
+use Prim.Native.Nat.{ℕ, _+_, _-_, _≤_, _<_}
+use mathlib.Core.Path.{_≡_, refl, _∙_}
+use mathlib.Core.List.{List}
+use lib.Ieee.{Float}
+use lib.ListN.{set}
+use Rattle.machine.specs.Constants.{allowedBlockedMicrosec}
+use Rattle.machine.specs.State.{stateRow}
+use Rattle.machine.specs.declared.dist.Whole.{Whole}
+use Rattle.machine.specs.declared.dist.WholeDrawn.the-variants.{NoWhole, GotWhole}
+use Rattle.steps.specs.Transition.{withValueAt}
+use Rattle.steps.specs.Events.{Tables, Run, Outcome, stop, go, each, withRuntime, machineWord, statesOf}
+use Rattle.steps.specs.Framework.{sharedFrom, noActions, newRuntime, startLimit, openTurn}
+use Rattle.steps.specs.declared.Framework.{Framework}
+use Rattle.steps.specs.declared.MachineRuntime.{MachineRuntime}
+use Rattle.framework.specs.Run.{run}
+use Rattle.framework.proofs.Turns.{each-end, each-on}
+
+-- so far: no actions, `at` value draws taken
+abbrev pub opens : Framework → ℕ → Run
+opens fw at = run fw noActions (withValueAt (sharedFrom 0) at)
+
+module _ (T : Tables) (values : List Float) (n m : ℕ) (fw : Framework) (at : ℕ) where
+  pub opens-end : n ≤ m → each (openTurn T values) (n - m) m (opens fw at) ≡ go (opens fw at)
+  opens-end = each-end (openTurn T values) n m (opens fw at)
+
+  module _ (h : m < n) where
+    pub opens-on : (w : Whole) → startLimit (stateRow (statesOf T m) 0) values at ≡ GotWhole w → (r : MachineRuntime) →
+        r ≡ newRuntime (fw .«current_time») (machineWord (T .machines) m allowedBlockedMicrosec) (w .value) →
+        each (openTurn T values) (n - m) m (opens fw at)
+        ≡ each (openTurn T values) (n - (m + 1)) (m + 1) (opens (withRuntime fw (set (fw .runtime) m r)) (w .at))
+    unfolding openTurn
+    opens-on w e r q = rw q (each-on (openTurn T values) n m (opens fw at) h ∙ rw e)
+
+    pub opens-stop : (why : ℕ) → startLimit (stateRow (statesOf T m) 0) values at ≡ NoWhole why →
+        each (openTurn T values) (n - m) m (opens fw at) ≡ stop why
+    unfolding openTurn
+    opens-stop why e = each-on (openTurn T values) n m (opens fw at) h ∙ rw e

@@ -1,0 +1,91 @@
+-- The run over events, a turn at a time: of the event taken some machines are left, and after them the events that follow.
+use Prim.Native.Nat.{ℕ, zero, suc, _+_, _-_, _≤_, _<_}
+use mathlib.Core.Path.{_≡_, refl, sym, ap, _∙_}
+use mathlib.Core.List.{List}
+use mathlib.Core.Bool.{Bool}
+use native.Mathlib.Nat.{sub-zero}
+use native.Mathlib.Omega.{arith}
+use lib.ListN.{getD, set}
+use Rattle.steps.specs.Transition.{noAction}
+use Rattle.steps.specs.Events.{Tables, Tapes, Run, Outcome, stop, go, andThen, each, numMachines, runtimeAt, withRuntime, envOf, limitFalls, turn, machineTurn, firstFor, turnsFor, processEvent, kindAt, machineAt, eventTurn, blockedFor}
+use Rattle.steps.specs.declared.Framework.{Framework}
+use Rattle.steps.specs.declared.Shared.{Shared}
+use Rattle.steps.specs.declared.Step.{Step}
+use Rattle.steps.specs.declared.Stepped.the-variants.{Refused, Done}
+use Rattle.steps.specs.declared.TriggerAction.{TriggerAction}
+use Rattle.framework.specs.Account.{blockedSince, normalAfter, paddingAfter, durationAfter, startedAfter, activeAfter}
+use Rattle.framework.specs.Run.{run}
+use Rattle.framework.proofs.Counts.{withCounts, afterCounts, blocked-is, accounted-is}
+
+-- a turn of `each`
+module _ (f : ℕ → Run → Outcome) (n i : ℕ) (x : Run) where
+  pub each-end : n ≤ i → each f (n - i) i x ≡ go x
+  unfolding each
+  each-end h = let none : n - i ≡ zero = omega arith in rw none
+
+  pub each-on : i < n → each f (n - i) i x ≡ andThen (f i x) (each f (n - (i + 1)) (i + 1))
+  unfolding each
+  each-on h = let one : n - i ≡ suc (n - (i + 1)) = omega arith in rw one
+
+module _ (T : Tables) (D : Tapes) (es : List ℕ) (n : ℕ) where
+  -- the machines from m to `end` of the event that was taken, then the events from i on
+  unfoldable pub ahead : ℕ → ℕ → ℕ → ℕ → ℕ → ℕ → Run → Outcome
+  ahead kind machine blocked m end i x =
+      andThen (each (machineTurn T D kind machine blocked) (end - m) m x) (each (eventTurn T D es) (n - i) i)
+
+  pub ahead-all : (x : Run) → each (eventTurn T D es) n 0 x ≡ ahead 0 0 0 0 0 0 x
+  unfolding ahead each
+  ahead-all x = rw sub-zero
+
+  module _ (kind machine blocked m end i : ℕ) (fw : Framework) (actions : List TriggerAction) (s : Shared) where
+    module _ (h : m < end) where
+      pub ahead-turn : (d : Step) →
+          turn (envOf T D fw m) kind (limitFalls kind machine m) blocked (runtimeAt fw m) s (getD actions m noAction) ≡ Done d →
+          ahead kind machine blocked m end i (run fw actions s)
+          ≡ ahead kind machine blocked (m + 1) end i (run (withRuntime fw (set (fw .runtime) m (d .runtime))) (set actions m (d .action)) (d .shared))
+      unfolding ahead machineTurn
+      ahead-turn d e = rw (each-on (machineTurn T D kind machine blocked) end m (run fw actions s) h, e)
+
+      pub ahead-stops : (why : ℕ) →
+          turn (envOf T D fw m) kind (limitFalls kind machine m) blocked (runtimeAt fw m) s (getD actions m noAction) ≡ Refused why →
+          ahead kind machine blocked m end i (run fw actions s) ≡ stop why
+      unfolding ahead machineTurn
+      ahead-stops why e = rw (each-on (machineTurn T D kind machine blocked) end m (run fw actions s) h, e)
+
+    module _ (h : end ≤ m) where
+      pub ahead-ends : n ≤ i → ahead kind machine blocked m end i (run fw actions s) ≡ go (run fw actions s)
+      unfolding ahead
+      ahead-ends last =
+          rw (each-end (machineTurn T D kind machine blocked) end m (run fw actions s) h)
+          (each-end (eventTurn T D es) n i (run fw actions s) last)
+
+      -- the next event is taken: the framework's counts first
+      ahead-event : i < n →
+          ahead kind machine blocked m end i (run fw actions s)
+          ≡ ahead (kindAt es i) (machineAt es i) (blockedSince (fw .«blocking_active») (fw .«current_time») (fw .«blocking_started»))
+          (firstFor (kindAt es i) (machineAt es i))
+          (firstFor (kindAt es i) (machineAt es i) + turnsFor (kindAt es i) (machineAt es i) (numMachines fw))
+          (i + 1) (run (afterCounts (kindAt es i) fw) actions s)
+      unfolding ahead processEvent
+      ahead-event more =
+          let k = kindAt es i in let own = machineAt es i in
+          let turns : firstFor k own + turnsFor k own (numMachines fw) - firstFor k own ≡ turnsFor k own (numMachines fw) = omega arith in
+          rw (each-end (machineTurn T D kind machine blocked) end m (run fw actions s) h)
+          (each-on (eventTurn T D es) n i (run fw actions s) more
+          ∙ rw (turns, blocked-is fw, accounted-is fw k))
+
+      -- the same, of what the code works out
+      pub ahead-taken : i < n → (b first last normal padding duration started active : ℕ) →
+          b ≡ blockedSince (fw .«blocking_active») (fw .«current_time») (fw .«blocking_started») →
+          first ≡ firstFor (kindAt es i) (machineAt es i) →
+          last ≡ firstFor (kindAt es i) (machineAt es i) + turnsFor (kindAt es i) (machineAt es i) (numMachines fw) →
+          normal ≡ normalAfter (kindAt es i) (fw .«normal_sent_packets») →
+          padding ≡ paddingAfter (kindAt es i) (fw .«padding_sent_packets») →
+          duration ≡ durationAfter (kindAt es i) (fw .«blocking_active») (fw .«blocking_duration») b →
+          started ≡ startedAfter (kindAt es i) (fw .«blocking_active») (fw .«blocking_started») (fw .«current_time») →
+          active ≡ activeAfter (kindAt es i) (fw .«blocking_active») →
+          ahead kind machine blocked m end i (run fw actions s)
+          ≡ ahead (kindAt es i) (machineAt es i) b first last (i + 1)
+          (run (withCounts fw normal padding duration started active) actions s)
+      ahead-taken more b first last normal padding duration started active eb ef el en ep ed es′ ea =
+          rw (en, ep, ed, es′, ea, eb, ef, el) (ahead-event more)

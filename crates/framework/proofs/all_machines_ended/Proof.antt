@@ -1,0 +1,19 @@
+-- `all_machines_ended` meets its contract.
+use borrow.Author.Needs.{needs}
+use mathlib.Core.Path.{_∙_}
+use Rattle.steps.specs.Framework.{allMachinesEnded}
+use Rattle.framework.proofs.all_machines_ended.Statement.{statement}
+use Rattle.framework.proofs.all_machines_ended.Tie as tie
+
+smaller-requires : tie.Need-smaller-requires
+smaller-requires c κs = search needs
+
+ended-to-requires : tie.Need-ended-to-requires
+ended-to-requires c κs = rw (c .smaller .ensures) (search needs)
+
+returns : tie.Need-returns
+unfolding allMachinesEnded
+returns c = rw (c .before .smaller .ensures) at (c .ended-to .ensures)
+
+pub all-machines-ended-spec : {M : Type 1} → statement M
+all-machines-ended-spec = tie.close (tie.spec smaller-requires ended-to-requires returns)

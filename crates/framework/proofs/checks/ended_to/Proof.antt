@@ -1,0 +1,72 @@
+-- `ended_to` meets its contract. The loop's invariant: the machines passed have ended.
+use borrow.Author.Needs.{needs}
+use Prim.Native.Nat.{ℕ, _+_, _*_, _-_, _/_, _≤_, _<_}
+use mathlib.Core.Path.{_≡_, refl, sym, ap, _∙_}
+use mathlib.Core.Bool.{Bool, true, false}
+use native.Mathlib.Omega.{arith}
+use lib.Dec.{eqb}
+use borrow.Author.Tests.{eq-eqb, ne-eqb}
+use Rattle.machine.specs.Constants.{stateEnd}
+use Rattle.steps.specs.Events.{runtimeAt}
+use Rattle.steps.specs.Framework.{endedTo}
+use Rattle.steps.specs.declared.Framework.{Framework}
+use Rattle.framework.proofs.All.{all-more, all-fails}
+use Rattle.framework.proofs.checks.ended_to.Statement.{statement}
+use Rattle.framework.proofs.checks.ended_to.Tie as tie
+
+more : (fw : Framework) (m : ℕ) → endedTo fw m ≡ true → runtimeAt fw m .«current_state» ≡ stateEnd → endedTo fw (m + 1) ≡ true
+unfolding endedTo
+more fw m e h = all-more (endedTo fw) (λ (n : ℕ). eqb (runtimeAt fw n .«current_state») stateEnd) (λ n. refl) m e (eq-eqb _ _ h)
+
+fails : (fw : Framework) (m n : ℕ) → m < n → endedTo fw m ≡ true → (runtimeAt fw m .«current_state» ≡ stateEnd → ⊥) → endedTo fw n ≡ false
+unfolding endedTo
+fails fw m n l e h = all-fails (endedTo fw) (λ (n : ℕ). eqb (runtimeAt fw n .«current_state») stateEnd) (λ n. refl) m n l e (ne-eqb _ _ h)
+
+abbrev Inv-loop : tie.InvT-loop
+Inv-loop count fw m₀ m = (m ≤ count) × (endedTo fw m ≡ true)
+
+abbrev μ-loop : tie.MeasureT-loop
+μ-loop count fw m₀ m = count - m
+
+loop-holds : tie.Need-loop-holds Inv-loop μ-loop
+unfolding endedTo
+loop-holds c = (omega arith, refl)
+
+mul-r : tie.Need-mul-r Inv-loop μ-loop
+mul-r c = search needs
+
+element-copy-out-r : tie.Need-element-copy-out-r Inv-loop μ-loop
+element-copy-out-r c = search needs
+
+returns : tie.Need-returns Inv-loop μ-loop
+returns c =
+    sym (fails (c .before .before .before .before .before .args .t1) (c .before .before .before .before .loop .m) (c .before .before .before .before .before .args .count) (c .before .before .before .loop-test .taken) (c .before .before .before .before .loop .inv .1) (c .if1 .taken))
+
+add-m : tie.Need-add-m Inv-loop μ-loop
+add-m c = search needs
+
+loop-less : tie.Need-loop-less Inv-loop μ-loop
+loop-less c = search needs
+
+loop-again : tie.Need-loop-again Inv-loop μ-loop
+loop-again c =
+    (omega (arith, c .before .before .before .loop-test .taken), more (c .before .before .before .before .before .args .t1) (c .before .before .before .before .loop .m) (c .before .before .before .before .loop .inv .1) (c .if1 .left))
+
+returns-2 : tie.Need-returns-2 Inv-loop μ-loop
+returns-2 c =
+    let e : c .before .loop .m ≡ c .before .before .args .count = omega arith in sym (rw e at (c .before .loop .inv .1))
+
+pub ended-to-spec : {M : Type 1} → statement M
+ended-to-spec =
+    tie.close
+    (tie.spec
+    Inv-loop
+    μ-loop
+    loop-holds
+    mul-r
+    element-copy-out-r
+    returns
+    add-m
+    loop-less
+    loop-again
+    returns-2)

@@ -1,0 +1,233 @@
+-- `run_events` meets its contract. The loop's invariant: the whole run is what is ahead, namely the machines from m to `end` of the
+-- event taken last, then the events from i on. The measure counts 17 for each event left, and the machines left.
+use borrow.Author.Needs.{needs}
+use Prim.Native.Nat.{ℕ, _+_, _*_, _-_, _/_, _≤_, _<_}
+use mathlib.Core.Path.{_≡_, refl, sym, ap, _∙_}
+use native.Mathlib.Omega.{arith}
+use lib.ListN.{length}
+use Rattle.steps.specs.Events.{each, eventTurn}
+use Rattle.steps.specs.Framework.{begin}
+use Rattle.steps.specs.declared.Ran.{Ran}
+use Rattle.framework.specs.Run.{tables, tapes, run}
+use Rattle.framework.proofs.Counts.{kind-fits}
+use Rattle.framework.proofs.Turns.{ahead, ahead-all, ahead-turn, ahead-stops, ahead-ends, ahead-taken}
+use Rattle.framework.proofs.events.run_events.Statement.{statement}
+use Rattle.framework.proofs.events.run_events.Tie as tie
+
+abbrev Inv-loop : tie.InvT-loop
+Inv-loop fw machines states transitions time events chances values f₀ actions₀ s₀ n i₀ m₀ end₀ kind₀ machine₀ blocked₀ f actions s i m end kind machine blocked =
+    (i ≤ n) × (kind ≤ 9) × (m < end → end ≤ 16) × (f .machines ≡ fw .machines) ×
+    (each (eventTurn (tables machines states transitions) (tapes chances values) events) n 0 (begin fw time)
+    ≡ ahead (tables machines states transitions) (tapes chances values) events n kind machine blocked m end i (run f actions s))
+
+abbrev μ-loop : tie.MeasureT-loop
+μ-loop fw machines states transitions time events chances values f₀ actions₀ s₀ n i₀ m₀ end₀ kind₀ machine₀ blocked₀ f actions s i m end kind machine blocked =
+    (n - i) * 17 + (end - m)
+
+no-action-requires : tie.Need-no-action-requires Inv-loop μ-loop
+no-action-requires c κs = search needs
+
+shared-from-requires : tie.Need-shared-from-requires Inv-loop μ-loop
+shared-from-requires c κs = search needs
+
+loop-holds : tie.Need-loop-holds Inv-loop μ-loop
+loop-holds c =
+    let a = c .before .before .before .before .before .before .before .before .args in let es = a .events .now in
+    let T = tables (a .machines .now) (a .states .now) (a .transitions .now) in let D = tapes (a .chances .now) (a .values .now) in
+    (omega arith, omega arith, λ h. omega (arith, h), refl, rw (c .before .no-action .ensures, c .shared-from .ensures) (ahead-all T D es (length es / 2) (begin (a .fw) (a .time))))
+
+states-of-requires : tie.Need-states-of-requires Inv-loop μ-loop
+states-of-requires c κs = omega (arith, c .before .loop .inv .2 (c .if1 .taken), c .if1 .taken)
+
+context-from-requires : tie.Need-context-from-requires Inv-loop μ-loop
+context-from-requires c κs =
+    omega (arith, c .before .before .loop .inv .2 (c .before .if1 .taken), c .before .if1 .taken)
+
+limit-falls-requires : tie.Need-limit-falls-requires Inv-loop μ-loop
+limit-falls-requires c κs = search needs
+
+mul-r : tie.Need-mul-r Inv-loop μ-loop
+mul-r c =
+    omega (arith, c .before .before .before .before .loop .inv .2 (c .before .before .before .if1 .taken), c .before .before .before .if1 .taken)
+
+element-copy-out-r : tie.Need-element-copy-out-r Inv-loop μ-loop
+element-copy-out-r c =
+    omega (arith, c .before .before .before .before .loop .inv .2 (c .before .before .before .if1 .taken), c .before .before .before .if1 .taken)
+
+mul-p : tie.Need-mul-p Inv-loop μ-loop
+mul-p c =
+    omega (arith, c .before .before .before .before .before .loop .inv .2 (c .before .before .before .before .if1 .taken), c .before .before .before .before .if1 .taken)
+
+array-copy-out-p : tie.Need-array-copy-out-p Inv-loop μ-loop
+array-copy-out-p c =
+    omega (arith, c .before .before .before .before .before .loop .inv .2 (c .before .before .before .before .if1 .taken), c .before .before .before .before .if1 .taken)
+
+turn-requires : tie.Need-turn-requires Inv-loop μ-loop
+turn-requires c κs =
+    (c .before .before .before .before .before .before .loop .inv .1, rw (c .before .before .before .context-from .ensures) (omega (arith, c .before .before .before .before .before .before .loop .inv .2 (c .before .before .before .before .before .if1 .taken), c .before .before .before .before .before .if1 .taken)))
+
+enum-known-x : tie.Need-enum-known-x Inv-loop μ-loop
+enum-known-x c = search needs
+
+stopped-requires : tie.Need-stopped-requires Inv-loop μ-loop
+stopped-requires c κs = search needs
+
+returns : tie.Need-returns Inv-loop μ-loop
+returns c =
+    let a = c .before .before .before .before .before .before .before .before .before .before .before .before .before .before .before .before .before .before .before .before .args in let l = c .before .before .before .before .before .before .before .before .before .before .before .loop in let es = a .events .now in
+    let T = tables (a .machines .now) (a .states .now) (a .transitions .now) in let D = tapes (a .chances .now) (a .values .now) in
+    (rw (l .inv .4 ∙ ahead-stops T D es (length es / 2) (l .kind) (l .machine) (l .blocked) (l .m) (l .end) (l .i) (l .f) (l .actions) (l .s) (c .before .before .before .before .before .before .before .before .before .before .if1 .taken) _ (sym (rw (c .before .before .before .before .before .before .before .before .before .states-of .ensures, c .before .before .before .before .before .before .before .before .context-from .ensures, c .before .before .before .before .before .before .before .limit-falls .ensures) at (c .before .before .before .before .turn .ensures)) ∙ c .before .before .x .given .1)) (c .stopped .ensures), ap (λ (n : Ran). n .framework .machines) (c .stopped .ensures))
+
+enum-known-x-2 : tie.Need-enum-known-x-2 Inv-loop μ-loop
+enum-known-x-2 c = search needs
+
+mul-r2 : tie.Need-mul-r2 Inv-loop μ-loop
+mul-r2 c =
+    omega (arith, c .before .before .before .before .before .before .before .before .before .before .before .before .loop .inv .2 (c .before .before .before .before .before .before .before .before .before .before .before .if1 .taken), c .before .before .before .before .before .before .before .before .before .before .before .if1 .taken)
+
+element-set-from-r2 : tie.Need-element-set-from-r2 Inv-loop μ-loop
+element-set-from-r2 c =
+    omega (arith, c .before .before .before .before .before .before .before .before .before .before .before .before .loop .inv .2 (c .before .before .before .before .before .before .before .before .before .before .before .if1 .taken), c .before .before .before .before .before .before .before .before .before .before .before .if1 .taken)
+
+mul-actions : tie.Need-mul-actions Inv-loop μ-loop
+mul-actions c =
+    omega (arith, c .before .before .before .before .before .before .before .before .before .before .before .before .loop .inv .2 (c .before .before .before .before .before .before .before .before .before .before .before .if1 .taken), c .before .before .before .before .before .before .before .before .before .before .before .if1 .taken)
+
+array-set-from-actions : tie.Need-array-set-from-actions Inv-loop μ-loop
+array-set-from-actions c =
+    omega (arith, c .before .before .before .before .before .before .before .before .before .before .before .before .loop .inv .2 (c .before .before .before .before .before .before .before .before .before .before .before .if1 .taken), c .before .before .before .before .before .before .before .before .before .before .before .if1 .taken)
+
+add-m : tie.Need-add-m Inv-loop μ-loop
+add-m c =
+    omega (arith, c .before .before .before .before .before .before .before .before .before .before .before .before .before .loop .inv .2 (c .before .before .before .before .before .before .before .before .before .before .before .before .if1 .taken), c .before .before .before .before .before .before .before .before .before .before .before .before .if1 .taken)
+
+loop-less : tie.Need-loop-less Inv-loop μ-loop
+loop-less c =
+    omega (arith, c .before .before .before .before .before .before .before .before .before .before .before .before .if1 .taken)
+
+loop-again : tie.Need-loop-again Inv-loop μ-loop
+loop-again c =
+    let a = c .before .before .before .before .before .before .before .before .before .before .before .before .before .before .before .before .before .before .before .before .before .before .args in let l = c .before .before .before .before .before .before .before .before .before .before .before .before .before .loop in let es = a .events .now in
+    let T = tables (a .machines .now) (a .states .now) (a .transitions .now) in let D = tapes (a .chances .now) (a .values .now) in
+    (l .inv .0, l .inv .1, λ h. l .inv .2 (c .before .before .before .before .before .before .before .before .before .before .before .before .if1 .taken), l .inv .3,
+    l .inv .4 ∙ ahead-turn T D es (length es / 2) (l .kind) (l .machine) (l .blocked) (l .m) (l .end) (l .i) (l .f) (l .actions) (l .s) (c .before .before .before .before .before .before .before .before .before .before .before .before .if1 .taken) _ (sym (rw (c .before .before .before .before .before .before .before .before .before .before .before .states-of .ensures, c .before .before .before .before .before .before .before .before .before .before .context-from .ensures, c .before .before .before .before .before .before .before .before .before .limit-falls .ensures) at (c .before .before .before .before .before .before .turn .ensures)) ∙ c .before .before .before .before .x2 .given .1))
+
+returns-2 : tie.Need-returns-2 Inv-loop μ-loop
+returns-2 c =
+    let a = c .before .before .before .before .before .before .before .before .before .before .before .args in let l = c .before .before .loop in let es = a .events .now in
+    let T = tables (a .machines .now) (a .states .now) (a .transitions .now) in let D = tapes (a .chances .now) (a .values .now) in
+    (rw (l .inv .4 ∙ ahead-ends T D es (length es / 2) (l .kind) (l .machine) (l .blocked) (l .m) (l .end) (l .i) (l .f) (l .actions) (l .s) (c .before .if1 .left) (c .if2 .taken)), l .inv .3)
+
+mul-kind : tie.Need-mul-kind Inv-loop μ-loop
+mul-kind c = search needs
+
+mul-kind-2 : tie.Need-mul-kind-2 Inv-loop μ-loop
+mul-kind-2 c = search needs
+
+shared-slice-read-kind : tie.Need-shared-slice-read-kind Inv-loop μ-loop
+shared-slice-read-kind c = search needs
+
+mul-machine : tie.Need-mul-machine Inv-loop μ-loop
+mul-machine c = search needs
+
+add-machine : tie.Need-add-machine Inv-loop μ-loop
+add-machine c = search needs
+
+mul-machine-2 : tie.Need-mul-machine-2 Inv-loop μ-loop
+mul-machine-2 c = search needs
+
+shared-slice-read-machine : tie.Need-shared-slice-read-machine Inv-loop μ-loop
+shared-slice-read-machine c = search needs
+
+blocked-since-requires : tie.Need-blocked-since-requires Inv-loop μ-loop
+blocked-since-requires c κs = search needs
+
+first-for-requires : tie.Need-first-for-requires Inv-loop μ-loop
+first-for-requires c κs = search needs
+
+smaller-requires : tie.Need-smaller-requires Inv-loop μ-loop
+smaller-requires c κs = search needs
+
+end-for-requires : tie.Need-end-for-requires Inv-loop μ-loop
+end-for-requires c κs = rw (c .smaller .ensures) (omega arith)
+
+normal-after-requires : tie.Need-normal-after-requires Inv-loop μ-loop
+normal-after-requires c κs = search needs
+
+padding-after-requires : tie.Need-padding-after-requires Inv-loop μ-loop
+padding-after-requires c κs = search needs
+
+duration-after-requires : tie.Need-duration-after-requires Inv-loop μ-loop
+duration-after-requires c κs = search needs
+
+started-after-requires : tie.Need-started-after-requires Inv-loop μ-loop
+started-after-requires c κs = search needs
+
+active-after-requires : tie.Need-active-after-requires Inv-loop μ-loop
+active-after-requires c κs = search needs
+
+add-i : tie.Need-add-i Inv-loop μ-loop
+add-i c =
+    omega (arith, c .before .before .before .before .before .before .before .before .before .before .before .if2 .left, c .before .before .before .before .before .before .before .before .before .before .before .before .before .before .before .before .before .before .before .before .before .before .good .1 .1 .1 .1 .1 .0 .0)
+
+loop-less-2 : tie.Need-loop-less-2 Inv-loop μ-loop
+loop-less-2 c =
+    omega (arith, c .before .before .before .before .before .before .before .before .before .before .before .if2 .left, c .before .before .before .before .before .end-for .ensures .1 .0, c .before .before .before .before .before .before .before .first-for .ensures)
+
+loop-again-2 : tie.Need-loop-again-2 Inv-loop μ-loop
+loop-again-2 c =
+    let a = c .before .before .before .before .before .before .before .before .before .before .before .before .before .before .before .before .before .before .before .before .before .before .args in let l = c .before .before .before .before .before .before .before .before .before .before .before .before .before .loop in let es = a .events .now in
+    let T = tables (a .machines .now) (a .states .now) (a .transitions .now) in let D = tapes (a .chances .now) (a .values .now) in
+    let k = kind-fits es (l .i) (length es / 2) (c .before .before .before .before .before .before .before .before .before .before .before .if2 .left) (c .before .before .before .before .before .before .before .before .before .before .before .before .before .before .before .before .before .before .before .before .before .before .pre) in
+    (omega (arith, c .before .before .before .before .before .before .before .before .before .before .before .if2 .left), k, λ h. c .before .before .before .before .before .end-for .ensures .1 .1 (rw (← c .before .before .before .before .before .before .before .first-for .ensures) h), l .inv .3,
+    l .inv .4 ∙ ahead-taken T D es (length es / 2) (l .kind) (l .machine) (l .blocked) (l .m) (l .end) (l .i) (l .f) (l .actions) (l .s) (c .before .before .before .before .before .before .before .before .before .before .before .before .if1 .left) (c .before .before .before .before .before .before .before .before .before .before .before .if2 .left) _ _ _ _ _ _ _ _
+    (c .before .before .before .before .before .before .before .before .blocked-since .ensures) (c .before .before .before .before .before .before .before .first-for .ensures) (rw (c .before .before .before .before .before .before .smaller .ensures) at (c .before .before .before .before .before .end-for .ensures .0)) (c .before .before .before .before .normal-after .ensures) (c .before .before .before .padding-after .ensures) (c .before .before .duration-after .ensures) (c .before .started-after .ensures) (c .active-after .ensures))
+
+pub run-events-spec : {M : Type 1} → statement M
+run-events-spec =
+    tie.close
+    (tie.spec
+    Inv-loop
+    μ-loop
+    no-action-requires
+    shared-from-requires
+    loop-holds
+    states-of-requires
+    context-from-requires
+    limit-falls-requires
+    mul-r
+    element-copy-out-r
+    mul-p
+    array-copy-out-p
+    turn-requires
+    enum-known-x
+    stopped-requires
+    returns
+    enum-known-x-2
+    mul-r2
+    element-set-from-r2
+    mul-actions
+    array-set-from-actions
+    add-m
+    loop-less
+    loop-again
+    returns-2
+    mul-kind
+    mul-kind-2
+    shared-slice-read-kind
+    mul-machine
+    add-machine
+    mul-machine-2
+    shared-slice-read-machine
+    blocked-since-requires
+    first-for-requires
+    smaller-requires
+    end-for-requires
+    normal-after-requires
+    padding-after-requires
+    duration-after-requires
+    started-after-requires
+    active-after-requires
+    add-i
+    loop-less-2
+    loop-again-2)

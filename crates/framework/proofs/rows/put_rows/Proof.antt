@@ -1,0 +1,94 @@
+-- `put_rows` meets its contract. The loop's invariant: the rows of the first m machines are written, `at` is where they end, and what
+-- came after them stands.
+use borrow.Author.Needs.{needs}
+use Prim.Native.Nat.{ℕ, _+_, _*_, _-_, _/_, _≤_, _<_}
+use mathlib.Core.Path.{_≡_, refl, ap, _∙_}
+use mathlib.Core.List.{List}
+use native.Mathlib.Omega.{arith}
+use lib.ListN.{length, getD, take, drop, length-take, length-drop}
+use Rattle.steps.specs.Transition.{noAction}
+use Rattle.steps.specs.Framework.{actionRows, written}
+use Rattle.framework.proofs.Written.{row-short, rows-longer, row-written, same}
+use Rattle.framework.proofs.rows.put_rows.Statement.{statement}
+use Rattle.framework.proofs.rows.put_rows.Tie as tie
+
+abbrev Inv-loop : tie.InvT-loop
+Inv-loop count out₀ actions at₀ m₀ out at m =
+    (m ≤ count) × (at ≡ length (actionRows actions m)) × (at ≤ 6 * m) × (length out ≡ length out₀) × (out ≡ written (actionRows actions m) out₀)
+
+abbrev μ-loop : tie.MeasureT-loop
+μ-loop count out₀ actions at₀ m₀ out at m = count - m
+
+loop-holds : tie.Need-loop-holds Inv-loop μ-loop
+unfolding actionRows
+loop-holds c = (omega arith, refl, omega arith, refl, refl)
+
+mul-p : tie.Need-mul-p Inv-loop μ-loop
+mul-p c = search needs
+
+array-copy-out-p : tie.Need-array-copy-out-p Inv-loop μ-loop
+array-copy-out-p c = search needs
+
+mul-put-row : tie.Need-mul-put-row Inv-loop μ-loop
+mul-put-row c = search needs
+
+sub-put-row : tie.Need-sub-put-row Inv-loop μ-loop
+sub-put-row c = search needs
+
+part-put-row-start : tie.Need-part-put-row-start Inv-loop μ-loop
+part-put-row-start c = search needs
+
+part-put-row-end : tie.Need-part-put-row-end Inv-loop μ-loop
+part-put-row-end c = search needs
+
+put-row-requires : tie.Need-put-row-requires Inv-loop μ-loop
+put-row-requires c κs =
+    simp (length-take, length-drop) (omega (arith, c .before .before .loop-test .taken, c .before .before .before .loop .inv .2, c .before .before .before .loop .inv .3, c .before .before .before .before .before .pre .1))
+
+add-at : tie.Need-add-at Inv-loop μ-loop
+add-at c =
+    omega (arith, c .before .before .put-row .ensures .0, row-short (c .before .before .before .before .before .before .loop .m) (getD (c .before .before .before .before .before .before .before .before .args .t1) (c .before .before .before .before .before .before .loop .m) noAction), c .before .before .before .before .before .loop-test .taken, c .before .before .before .before .before .before .loop .inv .2, c .before .before .before .before .before .before .before .before .pre .0)
+
+add-m : tie.Need-add-m Inv-loop μ-loop
+add-m c = search needs
+
+loop-less : tie.Need-loop-less Inv-loop μ-loop
+loop-less c = search needs
+
+loop-again : tie.Need-loop-again Inv-loop μ-loop
+loop-again c =
+    let a = c .before .before .before .before .before .before .before .before .args .t1 in let l = c .before .before .before .before .before .before .loop in let out₀ = c .before .before .before .before .before .before .before .before .args .out .now in
+    (omega (arith, c .before .before .before .before .before .loop-test .taken), omega (arith, c .before .before .put-row .ensures .0, rows-longer a (l .m), l .inv .1),
+    omega (arith, c .before .before .put-row .ensures .0, row-short (l .m) (getD a (l .m) noAction), l .inv .2),
+    same (l .out) (c .before .before .put-row .last .0) (l .at) (omega (arith, c .before .before .before .before .before .loop-test .taken, l .inv .2, l .inv .3, c .before .before .before .before .before .before .before .before .pre .1)) (c .before .before .put-row .kept .0) ∙ l .inv .3,
+    row-written a (l .m) out₀ (l .out) (c .before .before .put-row .last .0) (l .at) (l .inv .1) (l .inv .4) (c .before .before .put-row .ensures .1))
+
+same-length : tie.Need-same-length Inv-loop μ-loop
+same-length c = c .before .loop .inv .3
+
+returns : tie.Need-returns Inv-loop μ-loop
+returns c =
+    let e : c .before .loop .m ≡ c .before .before .before .args .count = omega arith in
+    (ap (λ (n : ℕ). n / 6) (c .before .loop .inv .1 ∙ ap (λ (n : ℕ). length (actionRows (c .before .before .before .args .t1) n)) e),
+    c .before .loop .inv .4 ∙ ap (λ (n : ℕ). written (actionRows (c .before .before .before .args .t1) n) (c .before .before .before .args .out .now)) e)
+
+pub put-rows-spec : {M : Type 1} → statement M
+put-rows-spec =
+    tie.close
+    (tie.spec
+    Inv-loop
+    μ-loop
+    loop-holds
+    mul-p
+    array-copy-out-p
+    mul-put-row
+    sub-put-row
+    part-put-row-start
+    part-put-row-end
+    put-row-requires
+    add-at
+    add-m
+    loop-less
+    loop-again
+    same-length
+    returns)

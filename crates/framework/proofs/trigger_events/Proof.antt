@@ -1,0 +1,86 @@
+-- `trigger_events` meets its contract: a stop among the events is a stop of the whole, and with no signal pending they are all of it.
+use borrow.Author.Needs.{needs}
+use Prim.Native.Nat.{ℕ, _/_}
+use mathlib.Core.Path.{_≡_, refl, sym, ap, _∙_}
+use lib.ListN.{length}
+use borrow.Author.Tests.{eq-eqb}
+use Rattle.steps.specs.Events.{each, eventTurn, signals}
+use Rattle.steps.specs.Framework.{begin, triggerEvents}
+use Rattle.steps.specs.declared.Ran.{Ran}
+use Rattle.framework.specs.Run.{tables, tapes, runOf, entered}
+use Rattle.framework.proofs.Outcomes.{stopped-is, complete-is}
+use Rattle.framework.proofs.trigger_events.Statement.{statement}
+use Rattle.framework.proofs.trigger_events.Tie as tie
+
+run-events-requires : tie.Need-run-events-requires
+run-events-requires c κs = search needs
+
+enum-told : tie.Need-enum-told
+enum-told c = search needs
+
+returns : tie.Need-returns
+unfolding triggerEvents
+returns c =
+     
+    let a = c .before .before .before .before .before .before .before .before .before .args in let es = a .events .now in
+    let T = tables (a .machines .now) (a .states .now) (a .transitions .now) in let D = tapes (a .chances .now) (a .values .now) in
+    let e = stopped-is (entered (a .fw)) (each (eventTurn T D es) (length es / 2) 0 (begin (a .fw) (a .time))) _ _ (c .before .before .run-events .ensures .0) (c .enum-told .given .1) in
+    (rw e (rw e at (c .before .before .run-events .ensures .0)), c .before .before .run-events .ensures .1)
+
+enum-told-2 : tie.Need-enum-told-2
+enum-told-2 c = search needs
+
+returns-2 : tie.Need-returns-2
+unfolding triggerEvents signals
+returns-2 c =
+     
+    let a = c .before .before .before .before .before .before .before .before .before .before .before .before .args in let es = a .events .now in
+    let T = tables (a .machines .now) (a .states .now) (a .transitions .now) in let D = tapes (a .chances .now) (a .values .now) in
+    let e = complete-is (entered (a .fw)) (each (eventTurn T D es) (length es / 2) 0 (begin (a .fw) (a .time))) _ (c .before .before .before .before .before .run-events .ensures .0) (c .before .before .before .enum-told2 .given .1) in
+    (rw (e, eq-eqb _ _ (c .if1 .taken)) (rw e at (c .before .before .before .before .before .run-events .ensures .0)), c .before .before .before .before .before .run-events .ensures .1)
+
+run-signals-requires : tie.Need-run-signals-requires
+run-signals-requires c κs = search needs
+
+enum-known-last : tie.Need-enum-known-last
+enum-known-last c = search needs
+
+stopped-requires : tie.Need-stopped-requires
+stopped-requires c κs = search needs
+
+enum-told-3 : tie.Need-enum-told-3
+enum-told-3 c = search needs
+
+returns-3 : tie.Need-returns-3
+unfolding triggerEvents
+returns-3 c =
+     
+    let a = c .before .before .before .before .before .before .before .before .before .before .before .before .before .before .before .before .before .before .before .args in let es = a .events .now in
+    let T = tables (a .machines .now) (a .states .now) (a .transitions .now) in let D = tapes (a .chances .now) (a .values .now) in
+    let e = complete-is (entered (a .fw)) (each (eventTurn T D es) (length es / 2) 0 (begin (a .fw) (a .time))) _ (c .before .before .before .before .before .before .before .before .before .before .before .before .run-events .ensures .0) (c .before .before .before .before .before .before .before .before .before .before .enum-told2 .given .1) in let q = stopped-is (runOf (c .before .before .before .before .before .before .before .before .before .before .before .before .run-events .result)) (signals T D (runOf (c .before .before .before .before .before .before .before .before .before .before .before .before .run-events .result))) _ _ (c .before .before .before .before .run-signals .ensures .0) (c .before .before .last .given .1) in
+    (rw (e, q) (c .stopped .ensures), ap (λ (r : Ran). r .framework .machines) (c .stopped .ensures))
+
+returns-4 : tie.Need-returns-4
+unfolding triggerEvents
+returns-4 c =
+     
+    let a = c .before .before .before .before .before .before .before .before .before .before .before .before .before .before .before .before .before .args in let es = a .events .now in
+    let T = tables (a .machines .now) (a .states .now) (a .transitions .now) in let D = tapes (a .chances .now) (a .values .now) in
+    let e = complete-is (entered (a .fw)) (each (eventTurn T D es) (length es / 2) 0 (begin (a .fw) (a .time))) _ (c .before .before .before .before .before .before .before .before .before .before .run-events .ensures .0) (c .before .before .before .before .before .before .before .before .enum-told2 .given .1) in let q = complete-is (runOf (c .before .before .before .before .before .before .before .before .before .before .run-events .result)) (signals T D (runOf (c .before .before .before .before .before .before .before .before .before .before .run-events .result))) _ (c .before .before .run-signals .ensures .0) (c .enum-told3 .given .1) in
+    (rw (e, q) (rw q at (c .before .before .run-signals .ensures .0)), c .before .before .run-signals .ensures .1 ∙ c .before .before .before .before .before .before .before .before .before .before .run-events .ensures .1)
+
+pub trigger-events-spec : {M : Type 1} → statement M
+trigger-events-spec =
+    tie.close
+    (tie.spec
+    run-events-requires
+    enum-told
+    returns
+    enum-told-2
+    returns-2
+    run-signals-requires
+    enum-known-last
+    stopped-requires
+    enum-told-3
+    returns-3
+    returns-4)

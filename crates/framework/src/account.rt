@@ -1,0 +1,199 @@
+// process_event of framework.rs, but for the machines' transitions: what an event counts, and which
+// machines hear it. Each function takes the numbers that it reads and never the framework.
+use machine::constants::MACHINE_WORDS;
+use machine::event::BLOCKING_BEGIN;
+use machine::event::BLOCKING_END;
+use machine::event::NORMAL_SENT;
+use machine::event::PADDING_SENT;
+use machine::state::state_rows;
+use machine::state::word;
+use steps::Context;
+ghost use mathlib.Core.Path.{_≡_};
+ghost use Prim.Native.Nat.{_+_, _≤_, _<_};
+ghost use Rattle.machine.specs.Constants.{stateWords, firstState, numStates};
+ghost use Rattle.machine.specs.State.{rowsOf};
+ghost use Rattle.steps.specs.Events.{ownOnly, limitFalls, firstFor, turnsFor, machineWord};
+ghost use Rattle.framework.specs.Account.{blockedSince, normalAfter, paddingAfter, durationAfter, startedAfter, activeAfter, contextFrom};
+
+// TimerBegin and TimerEnd among the kinds of `TriggerEvent`.
+const TIMER_BEGIN_KIND: u64 = 8;
+
+const TIMER_END_KIND: u64 = 9;
+
+// ---- the framework's own counts
+
+// How long the ongoing blocking has been on.
+pub fn blocked_since(blocking_active: u64, current_time: u64, blocking_started: u64) -> u64
+    ensures { λ r. ⌜ r ≡ blockedSince «blocking_active» «current_time» «blocking_started» ⌝ }
+{
+    if blocking_active == 0 {
+        return 0;
+    }
+    numbers::time::saturating_duration_since(current_time, blocking_started)
+}
+
+pub fn normal_after(kind: u64, normal_sent_packets: u64) -> u64
+    ensures { λ r. ⌜ r ≡ normalAfter kind «normal_sent_packets» ⌝ }
+{
+    if kind == NORMAL_SENT {
+        return numbers::saturating_add(normal_sent_packets, 1);
+    }
+    normal_sent_packets
+}
+
+pub fn padding_after(kind: u64, padding_sent_packets: u64) -> u64
+    ensures { λ r. ⌜ r ≡ paddingAfter kind «padding_sent_packets» ⌝ }
+{
+    if kind == PADDING_SENT {
+        return numbers::saturating_add(padding_sent_packets, 1);
+    }
+    padding_sent_packets
+}
+
+// An end while blocking is off adds nothing.
+pub fn duration_after(kind: u64, blocking_active: u64, blocking_duration: u64, blocked: u64) -> u64
+    ensures { λ r. ⌜ r ≡ durationAfter kind «blocking_active» «blocking_duration» blocked ⌝ }
+{
+    if kind == BLOCKING_END {
+        if blocking_active == 0 {
+            return blocking_duration;
+        }
+        return numbers::saturating_add(blocking_duration, blocked);
+    }
+    blocking_duration
+}
+
+// A begin while blocking is on does not move the start.
+pub fn started_after(kind: u64, blocking_active: u64, blocking_started: u64, current_time: u64) -> u64
+    ensures { λ r. ⌜ r ≡ startedAfter kind «blocking_active» «blocking_started» «current_time» ⌝ }
+{
+    if kind == BLOCKING_BEGIN {
+        if blocking_active == 0 {
+            return current_time;
+        }
+    }
+    blocking_started
+}
+
+pub fn active_after(kind: u64, blocking_active: u64) -> u64
+    ensures { λ r. ⌜ r ≡ activeAfter kind «blocking_active» ⌝ }
+{
+    if kind == BLOCKING_BEGIN {
+        if blocking_active == 0 {
+            return 1;
+        }
+        return blocking_active;
+    }
+    if kind == BLOCKING_END {
+        if blocking_active == 0 {
+            return blocking_active;
+        }
+        return 0;
+    }
+    blocking_active
+}
+
+// ---- whose turn it is
+
+// PaddingSent, TimerBegin and TimerEnd go to their own machine alone.
+pub fn own_only(kind: u64) -> bool
+    ensures { λ r. ⌜ r ≡ ownOnly kind ⌝ }
+{
+    if kind == PADDING_SENT {
+        return true;
+    }
+    if kind == TIMER_BEGIN_KIND {
+        return true;
+    }
+    kind == TIMER_END_KIND
+}
+
+// The first machine that hears an event.
+pub fn first_for(kind: u64, machine: u64) -> u64
+    ensures { λ r. ⌜ r ≡ firstFor kind machine ⌝ }
+{
+    if own_only(kind) {
+        return machine;
+    }
+    0
+}
+
+// The machine after the last one that hears it; none does where its own machine is unknown.
+pub fn end_for(kind: u64, machine: u64, count: u64) -> u64
+    requires { ⌜ count ≤ 16 ⌝ }
+    ensures is { λ r. ⌜ r ≡ firstFor kind machine + turnsFor kind machine count ⌝ }
+    ensures within { λ r. ⌜ (r ≤ firstFor kind machine + 16) × (firstFor kind machine < r → r ≤ 16) ⌝ }
+{
+    if own_only(kind) {
+        if machine < count {
+            return machine + 1;
+        }
+        return machine;
+    }
+    count
+}
+
+// The state limit falls at a machine's own PaddingSent, BlockingBegin and TimerBegin.
+pub fn limit_falls(kind: u64, machine: u64, m: u64) -> bool
+    ensures { λ r. ⌜ r ≡ limitFalls kind machine m ⌝ }
+{
+    if kind == PADDING_SENT {
+        return m == machine;
+    }
+    if kind == BLOCKING_BEGIN {
+        return m == machine;
+    }
+    if kind == TIMER_BEGIN_KIND {
+        return m == machine;
+    }
+    false
+}
+
+// ---- what a machine's transition reads
+
+// A machine's own part of the state table.
+pub fn states_of<'a>(machines: &[u64], states: &'a [u64], m: usize) -> &'a [u64]
+    requires { ⌜ m < 16 ⌝ }
+    ensures { λ r. ⌜ now r ≡ rowsOf stateWords (now (states .entry)) (machineWord (now (machines .entry)) m firstState) (machineWord (now (machines .entry)) m numStates) ⌝ }
+{
+    let at = m * MACHINE_WORDS;
+    state_rows(states, word(machines, at + 4), word(machines, at + 5))
+}
+
+// Of the machine's row, and of the framework's own numbers.
+pub fn context_from(
+    machines: &[u64],
+    m: usize,
+    current_time: u64,
+    max_padding_frac: f64,
+    normal_sent_packets: u64,
+    padding_sent_packets: u64,
+    max_blocking_frac: f64,
+    blocking_duration: u64,
+    blocking_started: u64,
+    blocking_active: u64,
+    framework_start: u64,
+) -> Context
+    requires { ⌜ m < 16 ⌝ }
+    ensures { λ r. ⌜ r ≡ contextFrom (now (machines .entry)) m «current_time» «max_padding_frac» «normal_sent_packets» «padding_sent_packets» «max_blocking_frac» «blocking_duration» «blocking_started» «blocking_active» «framework_start» ⌝ }
+{
+    let at = m * MACHINE_WORDS;
+    let allowed_padding_packets = word(machines, at);
+    let machine_padding_frac = numbers::f64_of_word(word(machines, at + 1));
+    let machine_blocking_frac = numbers::f64_of_word(word(machines, at + 3));
+    Context {
+        machine: m as u64,
+        allowed_padding_packets: allowed_padding_packets,
+        machine_padding_frac: machine_padding_frac,
+        machine_blocking_frac: machine_blocking_frac,
+        current_time: current_time,
+        max_padding_frac: max_padding_frac,
+        normal_sent_packets: normal_sent_packets,
+        padding_sent_packets: padding_sent_packets,
+        max_blocking_frac: max_blocking_frac,
+        blocking_duration: blocking_duration,
+        blocking_started: blocking_started,
+        blocking_active: blocking_active,
+        framework_start: framework_start,
+    }
+}

@@ -1,0 +1,91 @@
+// What a batch refuses beside its tables: a framework that does not fit them (18), and events that
+// are not whole or of an unknown kind (19).
+use machine::constants::MACHINE_WORDS;
+use machine::constants::STATE_END;
+use machine::state::word;
+use steps::Framework;
+ghost use mathlib.Core.Path.{_≡_};
+ghost use mathlib.Core.Bool.{_||_};
+ghost use mathlib.Core.List.{List};
+ghost use Prim.Native.Nat.{ℕ, _*_, _/_, _≤_};
+ghost use lib.Dec.{eqb, ltb};
+ghost use lib.ListN.{length};
+ghost use Rattle.machine.specs.Constants.{stateEnd};
+ghost use Rattle.steps.specs.Framework.{rowsIn, statesFit, fitsTables, kindsFit, eventsFit, endedTo};
+ghost use Rattle.framework.specs.Run.{tables};
+
+// Whether a current state is ended, or one of the machine's.
+pub fn state_fits(current_state: u64, num_states: u64) -> bool
+    ensures { λ r. ⌜ r ≡ (eqb «current_state» stateEnd || ltb «current_state» «num_states») ⌝ }
+{
+    if current_state == STATE_END {
+        return true;
+    }
+    current_state < num_states
+}
+
+// The current states of the first `count` machines.
+pub fn states_fit(fw: Framework, machines: &[u64], count: usize) -> bool
+    requires { ⌜ count ≤ 16 ⌝ }
+    ensures { λ r. ⌜ ((states transitions : List ℕ) → r ≡ statesFit (tables (now (machines .entry)) states transitions) fw count) ⌝ }
+{
+    let mut m = 0;
+    while m < count {
+        let r = fw.runtime[m];
+        if state_fits(r.current_state, word(machines, m * MACHINE_WORDS + 5)) {
+            m = m + 1;
+        } else {
+            return false;
+        }
+    }
+    true
+}
+
+// 18: the machine count, the current states, and a pending signal that leaves out an unknown
+// machine.
+pub fn fits_tables(fw: Framework, machines: &[u64]) -> bool
+    requires { ⌜ rowsIn (now machines) ≤ 16 ⌝ }
+    ensures { λ r. ⌜ ((states transitions : List ℕ) → r ≡ fitsTables (tables (now (machines .entry)) states transitions) fw) ⌝ }
+{
+    let count = machines.len() / MACHINE_WORDS;
+    if fw.machines == count as u64 {
+        if states_fit(fw, machines, count) {
+            return fw.signal_pending < 2 + (count as u64);
+        }
+    }
+    false
+}
+
+// 19: whole events, each of a known kind.
+pub fn events_fit(events: &[u64]) -> bool
+    ensures { λ r. ⌜ r ≡ eventsFit (now (events .entry)) ⌝ }
+{
+    if events.len() % 2 != 0 {
+        return false;
+    }
+    let n = events.len() / 2;
+    let mut i = 0;
+    while i < n {
+        if events[i * 2] > 9 {
+            return false;
+        }
+        i = i + 1;
+    }
+    true
+}
+
+// Whether all of the first `count` machines have ended.
+pub fn ended_to(fw: Framework, count: usize) -> bool
+    requires { ⌜ count ≤ 16 ⌝ }
+    ensures { λ r. ⌜ r ≡ endedTo fw count ⌝ }
+{
+    let mut m = 0;
+    while m < count {
+        let r = fw.runtime[m];
+        if r.current_state != STATE_END {
+            return false;
+        }
+        m = m + 1;
+    }
+    true
+}

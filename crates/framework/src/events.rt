@@ -1,0 +1,155 @@
+// The events of a batch in order, each heard by its machines in order.
+use super::account::active_after;
+use super::account::blocked_since;
+use super::account::context_from;
+use super::account::duration_after;
+use super::account::end_for;
+use super::account::first_for;
+use super::account::limit_falls;
+use super::account::normal_after;
+use super::account::padding_after;
+use super::account::started_after;
+use super::account::states_of;
+use steps::Framework;
+use steps::Ran;
+use steps::Shared;
+use steps::Stepped;
+use steps::TriggerAction;
+use steps::Verdict;
+ghost use mathlib.Core.Path.{_≡_};
+ghost use mathlib.Core.Bool.{true};
+ghost use Prim.Native.Nat.{_/_};
+ghost use lib.ListN.{length};
+ghost use Rattle.steps.specs.Transition.{noAction};
+ghost use Rattle.steps.specs.Events.{each, eventTurn};
+ghost use Rattle.steps.specs.Framework.{sharedFrom, begin, kindsFit};
+ghost use Rattle.steps.specs.declared.Verdict.the-variants.{Stopped};
+ghost use Rattle.framework.specs.Run.{tables, tapes, entered, ran, ranFrom};
+
+pub fn no_action() -> TriggerAction
+    ensures { λ r. ⌜ r ≡ noAction ⌝ }
+{
+    TriggerAction {
+        kind: 0,
+        flags: 0,
+        timer: 0,
+        timeout: 0,
+        duration: 0,
+    }
+}
+
+// What a call shares as it begins: no counter has reported zero, both tapes are at their front.
+pub fn shared_from(signal_pending: u64) -> Shared
+    ensures { λ r. ⌜ r ≡ sharedFrom «signal_pending» ⌝ }
+{
+    Shared {
+        signal_pending: signal_pending,
+        counter_a_zeroed: false,
+        counter_b_zeroed: false,
+        chance_at: 0,
+        value_at: 0,
+    }
+}
+
+// A run that was stopped: all as it was when it began.
+pub fn stopped(fw: Framework, refusal: u64) -> Ran
+    ensures { λ r. ⌜ r ≡ ran (Stopped refusal) (entered fw) ⌝ }
+{
+    let none = no_action();
+    let actions = [none; 16];
+    let s = shared_from(fw.signal_pending);
+    Ran {
+        verdict: Verdict::Stopped(refusal),
+        framework: fw,
+        actions: actions,
+        shared: s,
+    }
+}
+
+// The run over all events. A turn of the loop is one machine at one event, or takes the next event:
+// `i` events are taken, and of the last one the machines from `m` to `end` are left. One loop, since
+// a framework that is passed on is copied.
+pub fn run_events(
+    fw: Framework,
+    machines: &[u64],
+    states: &[u64],
+    transitions: &[u64],
+    time: u64,
+    events: &[u64],
+    chances: &[f32],
+    values: &[f64],
+) -> Ran
+    requires { ⌜ kindsFit (now events) (length (now events) / 2) ≡ true ⌝ }
+    ensures is { λ r. ⌜ r ≡ ranFrom (entered fw) (each (eventTurn (tables (now (machines .entry)) (now (states .entry)) (now (transitions .entry))) (tapes (now (chances .entry)) (now (values .entry))) (now (events .entry))) (length (now (events .entry)) / 2) 0 (begin fw time)) ⌝ }
+    ensures keeps { λ r. ⌜ r .framework .machines ≡ fw .machines ⌝ }
+{
+    let none = no_action();
+    let mut f = fw;
+    f.current_time = time;
+    let mut actions = [none; 16];
+    let mut s = shared_from(fw.signal_pending);
+    let n = events.len() / 2;
+    let mut i = 0;
+    let mut m = 0;
+    let mut end = 0;
+    let mut kind = 0;
+    let mut machine = 0;
+    let mut blocked = 0;
+    loop {
+        if m < end {
+            let rows = states_of(machines, states, m);
+            let c = context_from(
+                machines,
+                m,
+                f.current_time,
+                f.max_padding_frac,
+                f.normal_sent_packets,
+                f.padding_sent_packets,
+                f.max_blocking_frac,
+                f.blocking_duration,
+                f.blocking_started,
+                f.blocking_active,
+                f.framework_start,
+            );
+            let falls = limit_falls(kind, machine, m as u64);
+            let r = f.runtime[m];
+            let p = actions[m];
+            let x = transition::turn(
+                rows, transitions, chances, values, c, kind, falls, blocked, r, s, p,
+            );
+            match x {
+                Stepped::Refused(why) => {
+                    return stopped(fw, why);
+                }
+                Stepped::Done(d) => {
+                    let r2 = d.runtime;
+                    let p2 = d.action;
+                    f.runtime[m] = r2;
+                    actions[m] = p2;
+                    s = d.shared;
+                }
+            }
+            m = m + 1;
+            continue;
+        }
+        if n <= i {
+            return Ran {
+                verdict: Verdict::Complete,
+                framework: f,
+                actions: actions,
+                shared: s,
+            };
+        }
+        kind = events[i * 2];
+        machine = events[i * 2 + 1];
+        blocked = blocked_since(f.blocking_active, f.current_time, f.blocking_started);
+        m = first_for(kind, machine) as usize;
+        end = end_for(kind, machine, numbers::smaller(f.machines, 16)) as usize;
+        f.normal_sent_packets = normal_after(kind, f.normal_sent_packets);
+        f.padding_sent_packets = padding_after(kind, f.padding_sent_packets);
+        f.blocking_duration = duration_after(kind, f.blocking_active, f.blocking_duration, blocked);
+        f.blocking_started = started_after(kind, f.blocking_active, f.blocking_started, f.current_time);
+        f.blocking_active = active_after(kind, f.blocking_active);
+        i = i + 1;
+    }
+}

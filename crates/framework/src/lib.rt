@@ -1,0 +1,188 @@
+// framework.rs, the outer half: the opening, a batch of events with its refusals and its output, and
+// all_machines_ended.
+use machine::constants::MACHINE_WORDS;
+use steps::Answer;
+use steps::Framework;
+use steps::Opened;
+use steps::Ran;
+use steps::Verdict;
+ghost use mathlib.Core.Path.{_≡_};
+ghost use mathlib.Core.Bool.{true};
+ghost use mathlib.Core.List.{List};
+ghost use Prim.Native.Nat.{ℕ, _*_, _/_, _≤_};
+ghost use lib.ListN.{length};
+ghost use Rattle.steps.specs.Events.{numMachines};
+ghost use Rattle.steps.specs.Framework as Spec;
+ghost use Rattle.framework.specs.Run.{tables, tapes, runOf, entered, ranFrom};
+
+pub mod account; // what an event counts, and whose turn it is
+pub mod checks; // refusals 18 and 19
+pub mod events; // the events of a batch in order
+pub mod rows; // the output rows
+pub mod signals; // the signals after the last event
+pub mod start; // the machines of an opening
+
+// Framework::new.
+pub fn opening(
+    max_padding_frac: f64,
+    max_blocking_frac: f64,
+    time: u64,
+    machines: &[u64],
+    states: &[u64],
+    transitions: &[u64],
+    values: &[f64],
+) -> Opened
+    ensures { λ r. ⌜ r ≡ Spec.opening (tables (now (machines .entry)) (now (states .entry)) (now (transitions .entry))) «max_padding_frac» «max_blocking_frac» time (now (values .entry)) ⌝ }
+{
+    let fractions = tables::check_fractions(max_padding_frac, max_blocking_frac);
+    if fractions != 0 {
+        return start::unopened(fractions);
+    }
+    let refusal = tables::check_tables(machines, states, transitions);
+    if refusal != 0 {
+        return start::unopened(refusal);
+    }
+    start::open_machines(
+        max_padding_frac,
+        max_blocking_frac,
+        time,
+        machines,
+        states,
+        values,
+    )
+}
+
+// What a batch refuses before it runs; `room` is the output's length.
+pub fn batch_refusal(
+    fw: Framework,
+    machines: &[u64],
+    states: &[u64],
+    transitions: &[u64],
+    events: &[u64],
+    room: usize,
+) -> u64
+    ensures { λ r. ⌜ ((out : List ℕ) → length out ≡ room → r ≡ Spec.batchRefusal fw (tables (now (machines .entry)) (now (states .entry)) (now (transitions .entry))) (now (events .entry)) out) ⌝ }
+{
+    let refusal = tables::check_tables(machines, states, transitions);
+    if refusal != 0 {
+        return refusal;
+    }
+    if checks::fits_tables(fw, machines) {
+        if checks::events_fit(events) {
+            if room < 6 * (machines.len() / MACHINE_WORDS) {
+                return 20;
+            }
+            return 0;
+        }
+        return 19;
+    }
+    18
+}
+
+// The events in order, then the signals.
+pub fn trigger_events(
+    fw: Framework,
+    machines: &[u64],
+    states: &[u64],
+    transitions: &[u64],
+    time: u64,
+    events: &[u64],
+    chances: &[f32],
+    values: &[f64],
+) -> Ran
+    requires { ⌜ Spec.kindsFit (now events) (length (now events) / 2) ≡ true ⌝ }
+    ensures is { λ r. ⌜ r ≡ ranFrom (entered fw) (Spec.triggerEvents (tables (now (machines .entry)) (now (states .entry)) (now (transitions .entry))) (tapes (now (chances .entry)) (now (values .entry))) time (now (events .entry)) fw) ⌝ }
+    ensures keeps { λ r. ⌜ r .framework .machines ≡ fw .machines ⌝ }
+{
+    let ran = events::run_events(
+        fw, machines, states, transitions, time, events, chances, values,
+    );
+    let verdict = ran.verdict;
+    match verdict {
+        Verdict::Stopped(_) => {
+            return ran;
+        }
+        Verdict::Complete => {}
+    }
+    let s = ran.shared;
+    if s.signal_pending == 0 {
+        return ran;
+    }
+    let f = ran.framework;
+    let actions = ran.actions;
+    let heard = signals::run_signals(
+        machines, states, transitions, chances, values, f, actions, s,
+    );
+    let last = heard.verdict;
+    match last {
+        Verdict::Stopped(n) => events::stopped(fw, n),
+        Verdict::Complete => heard,
+    }
+}
+
+// A refused batch: the framework as it went in, no draws.
+pub fn refused(fw: Framework, refusal: u64) -> Answer
+    ensures { λ r. ⌜ ((out : List ℕ) → r ≡ Spec.refused fw out refusal .answer) ⌝ }
+{
+    Answer {
+        refusal: refusal,
+        actions: 0,
+        chance_used: 0,
+        value_used: 0,
+        framework: fw,
+    }
+}
+
+// An accepted batch: the rows are written, and a signal that is still pending waits for the next.
+pub fn accepted(ran: Ran, out: &mut [u64]) -> Answer
+    requires { ⌜ 6 * numMachines (ran .framework) ≤ length (now out) ⌝ }
+    ensures { λ r. ⌜ (r ≡ Spec.accepted (runOf ran) (now (out .entry)) .answer) × (now (out .exit) ≡ Spec.accepted (runOf ran) (now (out .entry)) .out) ⌝ }
+{
+    let mut f = ran.framework;
+    let actions = ran.actions;
+    let s = ran.shared;
+    let rows = rows::put_rows(actions, numbers::smaller(f.machines, 16) as usize, out);
+    f.signal_pending = s.signal_pending;
+    Answer {
+        refusal: 0,
+        actions: rows,
+        chance_used: s.chance_at as u64,
+        value_used: s.value_at as u64,
+        framework: f,
+    }
+}
+
+// trigger_events: a batch of events at one time, and the actions that it returns as rows of `out`.
+pub fn batch(
+    fw: Framework,
+    machines: &[u64],
+    states: &[u64],
+    transitions: &[u64],
+    time: u64,
+    events: &[u64],
+    chances: &[f32],
+    values: &[f64],
+    out: &mut [u64],
+) -> Answer
+    ensures { λ r. ⌜ (r ≡ Spec.batch fw (tables (now (machines .entry)) (now (states .entry)) (now (transitions .entry))) time (now (events .entry)) (tapes (now (chances .entry)) (now (values .entry))) (now (out .entry)) .answer) × (now (out .exit) ≡ Spec.batch fw (tables (now (machines .entry)) (now (states .entry)) (now (transitions .entry))) time (now (events .entry)) (tapes (now (chances .entry)) (now (values .entry))) (now (out .entry)) .out) ⌝ }
+{
+    let refusal = batch_refusal(fw, machines, states, transitions, events, out.len());
+    if refusal != 0 {
+        return refused(fw, refusal);
+    }
+    let ran = trigger_events(
+        fw, machines, states, transitions, time, events, chances, values,
+    );
+    let verdict = ran.verdict;
+    match verdict {
+        Verdict::Stopped(n) => refused(fw, n),
+        Verdict::Complete => accepted(ran, out),
+    }
+}
+
+// Whether all machines have ended; true with no machines.
+pub fn all_machines_ended(fw: Framework) -> bool
+    ensures { λ r. ⌜ r ≡ Spec.allMachinesEnded fw ⌝ }
+{
+    checks::ended_to(fw, numbers::smaller(fw.machines, 16) as usize)
+}

@@ -1,0 +1,119 @@
+// The machines of an opening: each begins in state 0, with the limit that its start state draws.
+use super::account::states_of;
+use machine::action::sample_limit;
+use machine::constants::ACTION;
+use machine::constants::MACHINE_WORDS;
+use machine::dist::Whole;
+use machine::dist::WholeDrawn;
+use machine::state::state_row;
+use machine::state::word;
+use steps::Framework;
+use steps::MachineRuntime;
+use steps::Opened;
+ghost use mathlib.Core.Path.{_≡_};
+ghost use mathlib.Core.List.{List};
+ghost use Prim.Native.Nat.{ℕ, _≤_};
+ghost use Rattle.steps.specs.Events.{stop};
+ghost use Rattle.steps.specs.Framework.{newFramework, newRuntime, startLimit, rowsIn, openRun, openedBy};
+ghost use Rattle.framework.specs.Run.{tables};
+
+pub fn new_runtime(time: u64, allowed_blocked_microsec: u64, limit: u64) -> MachineRuntime
+    ensures { λ r. ⌜ r ≡ newRuntime time «allowed_blocked_microsec» limit ⌝ }
+{
+    MachineRuntime {
+        current_state: 0,
+        state_limit: limit,
+        padding_sent: 0,
+        normal_sent: 0,
+        blocking_duration: 0,
+        machine_start: time,
+        allowed_blocked_microsec: allowed_blocked_microsec,
+        counter_a: 0,
+        counter_b: 0,
+    }
+}
+
+// A framework before its machines are in.
+pub fn new_framework(machines: u64, max_padding_frac: f64, max_blocking_frac: f64, time: u64) -> Framework
+    ensures { λ r. ⌜ r ≡ newFramework machines «max_padding_frac» «max_blocking_frac» time ⌝ }
+{
+    let none = new_runtime(0, 0, 0);
+    let runtime = [none; 16];
+    Framework {
+        machines: machines,
+        current_time: time,
+        max_padding_frac: max_padding_frac,
+        normal_sent_packets: 0,
+        padding_sent_packets: 0,
+        max_blocking_frac: max_blocking_frac,
+        blocking_duration: 0,
+        blocking_started: time,
+        blocking_active: 0,
+        signal_pending: 0,
+        framework_start: time,
+        runtime: runtime,
+    }
+}
+
+// A refused opening: a framework with no machines, all zero.
+pub fn unopened(refusal: u64) -> Opened
+    ensures { λ r. ⌜ r ≡ openedBy (stop refusal) ⌝ }
+{
+    let none = new_framework(0, 0.0, 0.0, 0);
+    Opened {
+        refusal: refusal,
+        chance_used: 0,
+        value_used: 0,
+        framework: none,
+    }
+}
+
+// The start state's limit; without an action it stays 0.
+pub fn start_limit(row: &[u64], values: &[f64], at: usize) -> WholeDrawn
+    ensures { λ r. ⌜ r ≡ startLimit (now (row .entry)) (now (values .entry)) at ⌝ }
+{
+    if word(row, ACTION) == 0 {
+        return WholeDrawn::GotWhole(Whole { value: 0, at: at });
+    }
+    sample_limit(row, values, at)
+}
+
+// The machines in order; the transition table is not read.
+pub fn open_machines(
+    max_padding_frac: f64,
+    max_blocking_frac: f64,
+    time: u64,
+    machines: &[u64],
+    states: &[u64],
+    values: &[f64],
+) -> Opened
+    requires { ⌜ rowsIn (now machines) ≤ 16 ⌝ }
+    ensures { λ r. ⌜ ((transitions : List ℕ) → r ≡ openedBy (openRun (tables (now (machines .entry)) (now (states .entry)) transitions) «max_padding_frac» «max_blocking_frac» time (now (values .entry)))) ⌝ }
+{
+    let count = machines.len() / MACHINE_WORDS;
+    let mut f = new_framework(count as u64, max_padding_frac, max_blocking_frac, time);
+    let mut at = 0;
+    let mut m = 0;
+    while m < count {
+        let row = state_row(states_of(machines, states, m), 0);
+        let limit = start_limit(row, values, at);
+        match limit {
+            WholeDrawn::NoWhole(n) => {
+                return unopened(n);
+            }
+            WholeDrawn::GotWhole(w) => {
+                let allowed = word(machines, m * MACHINE_WORDS + 2);
+                let r = new_runtime(time, allowed, w.value);
+                f.runtime[m] = r;
+                at = w.at;
+            }
+        }
+        m = m + 1;
+    }
+    Opened {
+        refusal: 0,
+        chance_used: 0,
+        value_used: at as u64,
+        framework: f,
+    }
+}
