@@ -1,0 +1,87 @@
+// What a sender links: the framework's entries as C functions. All exports stand in this crate.
+use steps::Framework;
+use steps::Opened;
+ghost use mathlib.Core.Path.{_≡_};
+ghost use Rattle.steps.specs.Framework as Spec;
+ghost use Rattle.framework.specs.Run.{tables, tapes};
+ghost use Rattle.sender.specs.Reply.{replyOf};
+
+// A batch's answer without its framework: the refusal or 0, how many rows it wrote, and how many
+// draws of each tape it took.
+#[repr(C)]
+pub struct Reply {
+    pub refusal: u64,
+    pub actions: u64,
+    pub chance_used: u64,
+    pub value_used: u64,
+}
+
+// Opens a framework with the machines of the lent tables.
+#[no_mangle]
+pub extern "C" fn maybenot_opening(
+    max_padding_frac: f64,
+    max_blocking_frac: f64,
+    time: u64,
+    machines: &[u64],
+    states: &[u64],
+    transitions: &[u64],
+    values: &[f64],
+) -> Opened
+    ensures { λ r. ⌜ r ≡ Spec.opening (tables (now (machines .entry)) (now (states .entry)) (now (transitions .entry))) «max_padding_frac» «max_blocking_frac» time (now (values .entry)) ⌝ }
+{
+    framework::opening(
+        max_padding_frac,
+        max_blocking_frac,
+        time,
+        machines,
+        states,
+        transitions,
+        values,
+    )
+}
+
+// A batch of events on the framework that is lent: it becomes the one that `framework::batch`
+// returns, with that batch's answer and output.
+#[no_mangle]
+pub extern "C" fn maybenot_batch(
+    fw: &mut Framework,
+    machines: &[u64],
+    states: &[u64],
+    transitions: &[u64],
+    time: u64,
+    events: &[u64],
+    chances: &[f32],
+    values: &[f64],
+    out: &mut [u64],
+) -> Reply
+    ensures { λ r. ⌜ (now (fw .exit) ≡ Spec.batch (now (fw .entry)) (tables (now (machines .entry)) (now (states .entry)) (now (transitions .entry))) time (now (events .entry)) (tapes (now (chances .entry)) (now (values .entry))) (now (out .entry)) .answer .framework)
+        × (r ≡ replyOf (Spec.batch (now (fw .entry)) (tables (now (machines .entry)) (now (states .entry)) (now (transitions .entry))) time (now (events .entry)) (tapes (now (chances .entry)) (now (values .entry))) (now (out .entry)) .answer))
+        × (now (out .exit) ≡ Spec.batch (now (fw .entry)) (tables (now (machines .entry)) (now (states .entry)) (now (transitions .entry))) time (now (events .entry)) (tapes (now (chances .entry)) (now (values .entry))) (now (out .entry)) .out) ⌝ }
+{
+    let a = framework::batch(
+        *fw,
+        machines,
+        states,
+        transitions,
+        time,
+        events,
+        chances,
+        values,
+        out,
+    );
+    *fw = a.framework;
+    Reply {
+        refusal: a.refusal,
+        actions: a.actions,
+        chance_used: a.chance_used,
+        value_used: a.value_used,
+    }
+}
+
+// Whether every machine of the lent framework has ended; true with no machines.
+#[no_mangle]
+pub extern "C" fn maybenot_all_machines_ended(fw: &Framework) -> bool
+    ensures { λ r. ⌜ r ≡ Spec.allMachinesEnded (now (fw .entry)) ⌝ }
+{
+    framework::all_machines_ended(*fw)
+}
