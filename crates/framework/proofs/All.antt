@@ -34,8 +34,8 @@ module _ (P q : ℕ → Bool) (step : (n : ℕ) → P (suc n) ≡ P n && q n) wh
       ⊎-elim
       (λ t. t)
       (λ f.
-        let fails : P n ≡ false =
-            subst (λ (k : ℕ). P k ≡ false) there
-            (stays (i + 1) (n - (i + 1)) (rw add-one (step i ∙ rw f (and-false (P i))))) in
-        cc)
+      let fails : P n ≡ false =
+      subst (λ (k : ℕ). P k ≡ false) there
+      (stays (i + 1) (n - (i + 1)) (rw add-one (step i ∙ rw f (and-false (P i))))) in
+      cc)
       (bool-cases (q i))

@@ -1,5 +1,5 @@
 -- Refusals in order, and what holds where there is none.
-use Prim.Native.Nat.{ℕ, _*_, _/_, _≤_, min}
+use Prim.Native.Nat.{ℕ, _+_, _*_, _/_, _%_, _≤_}
 use mathlib.Core.Path.{_≡_, refl, sym, _∙_}
 use mathlib.Core.List.{List}
 use mathlib.Core.Bool.{Bool, true, false, false≢true, cond, _&&_}
@@ -7,10 +7,10 @@ use mathlib.Core.Logic.{⊎-elim}
 use native.Mathlib.Omega.{arith}
 use lib.Dec.{eqb, ltb}
 use lib.ListN.{length}
-use borrow.Author.Tests.{eq-eqb, ne-eqb, eqb-true, eqb-false, leb-true, ltb-false}
-use Rattle.machine.specs.Constants.{machineMax}
+use borrow.Author.Tests.{eq-eqb, ne-eqb, eqb-true, eqb-false, ltb-false}
 use Rattle.tables.specs.First.{orElse}
-use Rattle.tables.specs.Machine.{wholeTables, tablesRefusal}
+use Rattle.tables.specs.Machine.{tablesRefusal}
+use Rattle.tables.specs.Valid.Laws.{zero-valid}
 use Rattle.steps.specs.Events.{Tables, numMachines}
 use Rattle.steps.specs.Framework.{rowsIn, statesFit, fitsTables, kindsFit, eventsFit, batchRefusal}
 use Rattle.steps.specs.declared.Framework.{Framework}
@@ -47,18 +47,26 @@ none-then a b e =
     (bool-cases (eqb a 0))
 
 pub few-machines : (machines states transitions : List ℕ) → tablesRefusal machines states transitions ≡ 0 → rowsIn machines ≤ 16
-unfolding tablesRefusal
-few-machines machines states transitions e =
-    leb-true _ _ (both _ _ (passes (wholeTables machines states transitions) _ 3 (λ z. omega (arith, z)) e .0) .1)
+few-machines machines states transitions e = zero-valid machines states transitions e .whole .most
+
+machines-fit : (T : Tables) (fw : Framework) → fitsTables T fw ≡ true → fw .machines ≡ rowsIn (T .machines)
+unfolding fitsTables
+machines-fit T fw e =
+    let n = rowsIn (T .machines) in
+    let first = both (eqb (fw .machines) n && statesFit T fw n) (ltb (fw .«signal_pending») (2 + n)) e .0 in
+    eqb-true _ _ (both (eqb (fw .machines) n) (statesFit T fw n) first .0)
+
+kinds-fit : (es : List ℕ) → eventsFit es ≡ true → kindsFit es (length es / 2) ≡ true
+unfolding eventsFit
+kinds-fit es e = both (eqb (length es % 2) 0) (kindsFit es (length es / 2)) e .1
 
 -- a batch that is not refused before it runs: its kinds are known, and its output has room for a row of each machine
 pub batch-passes : (fw : Framework) (T : Tables) (es out : List ℕ) → batchRefusal fw T es out ≡ 0 →
     (kindsFit es (length es / 2) ≡ true) × (6 * numMachines fw ≤ length out)
-unfolding batchRefusal fitsTables eventsFit
+unfolding batchRefusal
 batch-passes fw T es out e =
-    let after = none-then _ _ e in
-    let fits = passes _ _ 18 (λ z. omega (arith, z)) after in
-    let events = passes _ _ 19 (λ z. omega (arith, z)) (fits .1) in
-    let room = passes-not _ 20 (λ z. omega (arith, z)) (events .1) in
-    let count : fw .machines ≡ rowsIn (T .machines) = eqb-true _ _ (both _ _ (both _ _ (fits .0) .0) .0) in
-    (both _ _ (events .0) .1, omega (arith, ltb-false _ _ room, count))
+    let fits = passes (fitsTables T fw) (cond (eventsFit es) (cond (ltb (length out) (6 * rowsIn (T .machines))) 20 0) 19) 18 (λ z. omega (arith, z)) (none-then _ _ e) in
+    let events = passes (eventsFit es) (cond (ltb (length out) (6 * rowsIn (T .machines))) 20 0) 19 (λ z. omega (arith, z)) (fits .1) in
+    let room = passes-not (ltb (length out) (6 * rowsIn (T .machines))) 20 (λ z. omega (arith, z)) (events .1) in
+    let count : fw .machines ≡ rowsIn (T .machines) = machines-fit T fw (fits .0) in
+    (kinds-fit es (events .0), omega (arith, ltb-false (length out) (6 * rowsIn (T .machines)) room, count))

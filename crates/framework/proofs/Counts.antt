@@ -58,7 +58,7 @@ module _ (fw : Framework) where
   at-end : accounted blockingEnd fw ≡ afterCounts blockingEnd fw
   unfolding accounted normalAfter paddingAfter durationAfter startedAfter activeAfter
   at-end = ⊎-elim (λ off. rw off) (λ on.
-        rw on (ap (λ (b : ℕ). withBlocking fw (saturatingAdd (fw .«blocking_duration») b) (fw .«blocking_started») 0) (blocked-is fw))) (bool-cases (eqb (fw .«blocking_active») 0))
+      rw on (ap (λ (b : ℕ). withBlocking fw (saturatingAdd (fw .«blocking_duration») b) (fw .«blocking_started») 0) (blocked-is fw))) (bool-cases (eqb (fw .«blocking_active») 0))
 
   module _ (kind : ℕ) where
     at-kind : (k : ℕ) → accounted k fw ≡ afterCounts k fw → eqb kind k ≡ true → accounted kind fw ≡ afterCounts kind fw

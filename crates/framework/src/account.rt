@@ -64,7 +64,12 @@ pub fn duration_after(kind: u64, blocking_active: u64, blocking_duration: u64, b
 }
 
 // A begin while blocking is on does not move the start.
-pub fn started_after(kind: u64, blocking_active: u64, blocking_started: u64, current_time: u64) -> u64
+pub fn started_after(
+    kind: u64,
+    blocking_active: u64,
+    blocking_started: u64,
+    current_time: u64,
+) -> u64
     ensures { λ r. ⌜ r ≡ startedAfter kind «blocking_active» «blocking_started» «current_time» ⌝ }
 {
     if kind == BLOCKING_BEGIN {

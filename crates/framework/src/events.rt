@@ -115,7 +115,17 @@ pub fn run_events(
             let r = f.runtime[m];
             let p = actions[m];
             let x = transition::turn(
-                rows, transitions, chances, values, c, kind, falls, blocked, r, s, p,
+                rows,
+                transitions,
+                chances,
+                values,
+                c,
+                kind,
+                falls,
+                blocked,
+                r,
+                s,
+                p,
             );
             match x {
                 Stepped::Refused(why) => {
@@ -148,7 +158,12 @@ pub fn run_events(
         f.normal_sent_packets = normal_after(kind, f.normal_sent_packets);
         f.padding_sent_packets = padding_after(kind, f.padding_sent_packets);
         f.blocking_duration = duration_after(kind, f.blocking_active, f.blocking_duration, blocked);
-        f.blocking_started = started_after(kind, f.blocking_active, f.blocking_started, f.current_time);
+        f.blocking_started = started_after(
+            kind,
+            f.blocking_active,
+            f.blocking_started,
+            f.current_time,
+        );
         f.blocking_active = active_after(kind, f.blocking_active);
         i = i + 1;
     }

@@ -95,7 +95,14 @@ pub fn trigger_events(
     ensures keeps { λ r. ⌜ r .framework .machines ≡ fw .machines ⌝ }
 {
     let ran = events::run_events(
-        fw, machines, states, transitions, time, events, chances, values,
+        fw,
+        machines,
+        states,
+        transitions,
+        time,
+        events,
+        chances,
+        values,
     );
     let verdict = ran.verdict;
     match verdict {
@@ -111,7 +118,14 @@ pub fn trigger_events(
     let f = ran.framework;
     let actions = ran.actions;
     let heard = signals::run_signals(
-        machines, states, transitions, chances, values, f, actions, s,
+        machines,
+        states,
+        transitions,
+        chances,
+        values,
+        f,
+        actions,
+        s,
     );
     let last = heard.verdict;
     match last {
@@ -171,7 +185,14 @@ pub fn batch(
         return refused(fw, refusal);
     }
     let ran = trigger_events(
-        fw, machines, states, transitions, time, events, chances, values,
+        fw,
+        machines,
+        states,
+        transitions,
+        time,
+        events,
+        chances,
+        values,
     );
     let verdict = ran.verdict;
     match verdict {

@@ -73,9 +73,7 @@ pub fn run_signals(
             );
             let r = f.runtime[m];
             let p = a[m];
-            let x = transition::transition(
-                rows, transitions, chances, values, c, SIGNAL, r, t, p,
-            );
+            let x = transition::transition(rows, transitions, chances, values, c, SIGNAL, r, t, p);
             match x {
                 Stepped::Refused(why) => {
                     return Ran {

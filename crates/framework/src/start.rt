@@ -34,7 +34,12 @@ pub fn new_runtime(time: u64, allowed_blocked_microsec: u64, limit: u64) -> Mach
 }
 
 // A framework before its machines are in.
-pub fn new_framework(machines: u64, max_padding_frac: f64, max_blocking_frac: f64, time: u64) -> Framework
+pub fn new_framework(
+    machines: u64,
+    max_padding_frac: f64,
+    max_blocking_frac: f64,
+    time: u64,
+) -> Framework
     ensures { λ r. ⌜ r ≡ newFramework machines «max_padding_frac» «max_blocking_frac» time ⌝ }
 {
     let none = new_runtime(0, 0, 0);

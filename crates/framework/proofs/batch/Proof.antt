@@ -18,7 +18,7 @@ refused-requires c κs = search needs
 returns : tie.Need-returns
 unfolding batch
 returns c =
-     let q = ne-eqb _ _ (λ z. c .before .if1 .taken ((c .before .before .batch-refusal .ensures (c .before .before .before .before .before .before .before .before .before .before .args .out .now) refl) ∙ z)) in rw q (rw (c .before .before .batch-refusal .ensures (c .before .before .before .before .before .before .before .before .before .before .args .out .now) refl) at (c .refused .ensures (c .before .before .before .before .before .before .before .before .before .before .args .out .now)), refl)
+    let q = ne-eqb _ _ (λ z. c .before .if1 .taken ((c .before .before .batch-refusal .ensures (c .before .before .before .before .before .before .before .before .before .before .args .out .now) refl) ∙ z)) in rw q (rw (c .before .before .batch-refusal .ensures (c .before .before .before .before .before .before .before .before .before .before .args .out .now) refl) at (c .refused .ensures (c .before .before .before .before .before .before .before .before .before .before .args .out .now)), refl)
 
 trigger-events-requires : tie.Need-trigger-events-requires
 trigger-events-requires c κs =
@@ -40,7 +40,6 @@ accepted-requires c κs =
 returns-2 : tie.Need-returns-2
 unfolding batch
 returns-2 c =
-     
     let a = c .before .before .before .before .before .before .before .before .before .before .before .before .before .before .args in let es = a .events .now in
     let T = tables (a .machines .now) (a .states .now) (a .transitions .now) in let D = tapes (a .chances .now) (a .values .now) in
     let q = stopped-is (entered (a .fw)) (triggerEvents T D (a .time) es (a .fw)) _ _ (c .before .before .before .before .trigger-events .ensures .0) (c .before .before .verdict .given .1) in
@@ -52,7 +51,6 @@ same-length c = search needs
 returns-3 : tie.Need-returns-3
 unfolding batch
 returns-3 c =
-     
     let a = c .before .before .before .before .before .before .before .before .before .before .before .before .before .before .before .before .args in let es = a .events .now in
     let T = tables (a .machines .now) (a .states .now) (a .transitions .now) in let D = tapes (a .chances .now) (a .values .now) in
     let q = complete-is (entered (a .fw)) (triggerEvents T D (a .time) es (a .fw)) _ (c .before .before .before .before .before .before .trigger-events .ensures .0) (c .before .before .before .before .enum-told .given .1) in

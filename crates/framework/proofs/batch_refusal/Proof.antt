@@ -14,7 +14,7 @@ check-tables-requires c κs = search needs
 returns : tie.Need-returns
 unfolding batchRefusal
 returns c =
-     λ out e. c .before .check-tables .ensures ∙ sym (first-is _ _ (λ z. c .if1 .taken (c .before .check-tables .ensures ∙ z)))
+    λ out e. c .before .check-tables .ensures ∙ sym (first-is _ _ (λ z. c .if1 .taken (c .before .check-tables .ensures ∙ z)))
 
 fits-tables-requires : tie.Need-fits-tables-requires
 fits-tables-requires c κs = few-machines _ _ _ (sym (c .before .check-tables .ensures) ∙ c .if1 .left)
@@ -28,25 +28,25 @@ mul-if4 c = search needs
 returns-2 : tie.Need-returns-2
 unfolding batchRefusal
 returns-2 c =
-     λ out e.
+    λ out e.
     rw (then-is _ _ (sym (c .before .before .before .before .before .before .check-tables .ensures) ∙ c .before .before .before .before .before .if1 .left), sym (c .before .before .before .before .fits-tables .ensures (c .before .before .before .before .before .before .before .before .before .before .before .args .states .now) (c .before .before .before .before .before .before .before .before .before .before .before .args .transitions .now)) ∙ c .before .before .before .if2 .taken, sym (c .before .before .events-fit .ensures) ∙ c .before .if3 .taken, e, lt-ltb _ _ (c .if4 .taken)) refl
 
 returns-3 : tie.Need-returns-3
 unfolding batchRefusal
 returns-3 c =
-     λ out e.
+    λ out e.
     rw (then-is _ _ (sym (c .before .before .before .before .before .before .check-tables .ensures) ∙ c .before .before .before .before .before .if1 .left), sym (c .before .before .before .before .fits-tables .ensures (c .before .before .before .before .before .before .before .before .before .before .before .args .states .now) (c .before .before .before .before .before .before .before .before .before .before .before .args .transitions .now)) ∙ c .before .before .before .if2 .taken, sym (c .before .before .events-fit .ensures) ∙ c .before .if3 .taken, e, le-ltb _ _ (c .if4 .left)) refl
 
 returns-4 : tie.Need-returns-4
 unfolding batchRefusal
 returns-4 c =
-     λ out e.
+    λ out e.
     rw (then-is _ _ (sym (c .before .before .before .before .before .check-tables .ensures) ∙ c .before .before .before .before .if1 .left), sym (c .before .before .before .fits-tables .ensures (c .before .before .before .before .before .before .before .before .before .before .args .states .now) (c .before .before .before .before .before .before .before .before .before .before .args .transitions .now)) ∙ c .before .before .if2 .taken, sym (c .before .events-fit .ensures) ∙ c .if3 .left) refl
 
 returns-5 : tie.Need-returns-5
 unfolding batchRefusal
 returns-5 c =
-     λ out e.
+    λ out e.
     rw (then-is _ _ (sym (c .before .before .before .check-tables .ensures) ∙ c .before .before .if1 .left), sym (c .before .fits-tables .ensures (c .before .before .before .before .before .before .before .before .args .states .now) (c .before .before .before .before .before .before .before .before .args .transitions .now)) ∙ c .if2 .left) refl
 
 pub batch-refusal-spec : {M : Type 1} → statement M

@@ -21,7 +21,6 @@ enum-told c = search needs
 returns : tie.Need-returns
 unfolding triggerEvents
 returns c =
-     
     let a = c .before .before .before .before .before .before .before .before .before .args in let es = a .events .now in
     let T = tables (a .machines .now) (a .states .now) (a .transitions .now) in let D = tapes (a .chances .now) (a .values .now) in
     let e = stopped-is (entered (a .fw)) (each (eventTurn T D es) (length es / 2) 0 (begin (a .fw) (a .time))) _ _ (c .before .before .run-events .ensures .0) (c .enum-told .given .1) in
@@ -33,7 +32,6 @@ enum-told-2 c = search needs
 returns-2 : tie.Need-returns-2
 unfolding triggerEvents signals
 returns-2 c =
-     
     let a = c .before .before .before .before .before .before .before .before .before .before .before .before .args in let es = a .events .now in
     let T = tables (a .machines .now) (a .states .now) (a .transitions .now) in let D = tapes (a .chances .now) (a .values .now) in
     let e = complete-is (entered (a .fw)) (each (eventTurn T D es) (length es / 2) 0 (begin (a .fw) (a .time))) _ (c .before .before .before .before .before .run-events .ensures .0) (c .before .before .before .enum-told2 .given .1) in
@@ -54,7 +52,6 @@ enum-told-3 c = search needs
 returns-3 : tie.Need-returns-3
 unfolding triggerEvents
 returns-3 c =
-     
     let a = c .before .before .before .before .before .before .before .before .before .before .before .before .before .before .before .before .before .before .before .args in let es = a .events .now in
     let T = tables (a .machines .now) (a .states .now) (a .transitions .now) in let D = tapes (a .chances .now) (a .values .now) in
     let e = complete-is (entered (a .fw)) (each (eventTurn T D es) (length es / 2) 0 (begin (a .fw) (a .time))) _ (c .before .before .before .before .before .before .before .before .before .before .before .before .run-events .ensures .0) (c .before .before .before .before .before .before .before .before .before .before .enum-told2 .given .1) in let q = stopped-is (runOf (c .before .before .before .before .before .before .before .before .before .before .before .before .run-events .result)) (signals T D (runOf (c .before .before .before .before .before .before .before .before .before .before .before .before .run-events .result))) _ _ (c .before .before .before .before .run-signals .ensures .0) (c .before .before .last .given .1) in
@@ -63,7 +60,6 @@ returns-3 c =
 returns-4 : tie.Need-returns-4
 unfolding triggerEvents
 returns-4 c =
-     
     let a = c .before .before .before .before .before .before .before .before .before .before .before .before .before .before .before .before .before .args in let es = a .events .now in
     let T = tables (a .machines .now) (a .states .now) (a .transitions .now) in let D = tapes (a .chances .now) (a .values .now) in
     let e = complete-is (entered (a .fw)) (each (eventTurn T D es) (length es / 2) 0 (begin (a .fw) (a .time))) _ (c .before .before .before .before .before .before .before .before .before .before .run-events .ensures .0) (c .before .before .before .before .before .before .before .before .enum-told2 .given .1) in let q = complete-is (runOf (c .before .before .before .before .before .before .before .before .before .before .run-events .result)) (signals T D (runOf (c .before .before .before .before .before .before .before .before .before .before .run-events .result))) _ (c .before .before .run-signals .ensures .0) (c .enum-told3 .given .1) in

@@ -15,7 +15,7 @@ saturating-add-requires c κs = search needs
 returns-2 : tie.Need-returns-2
 unfolding durationAfter
 returns-2 c =
-     rw (eq-eqb _ _ (c .before .before .if1 .taken), ne-eqb _ _ (c .before .if2 .left)) (c .saturating-add .ensures)
+    rw (eq-eqb _ _ (c .before .before .if1 .taken), ne-eqb _ _ (c .before .if2 .left)) (c .saturating-add .ensures)
 
 returns-3 : tie.Need-returns-3
 unfolding durationAfter

@@ -49,7 +49,7 @@ shared-slice-read-if2 c = search needs
 returns-2 : tie.Need-returns-2 Inv-loop μ-loop
 unfolding eventsFit
 returns-2 c =
-     rw (eq-eqb _ _ (c .before .before .before .before .if1 .left)) (sym (fails (c .before .before .before .before .before .args .events .now) (c .before .before .before .loop .i) _ (c .before .before .loop-test .taken) (c .before .before .before .loop .inv .1) (lt-leb _ _ (c .if2 .taken))))
+    rw (eq-eqb _ _ (c .before .before .before .before .if1 .left)) (sym (fails (c .before .before .before .before .before .args .events .now) (c .before .before .before .loop .i) _ (c .before .before .loop-test .taken) (c .before .before .before .loop .inv .1) (lt-leb _ _ (c .if2 .taken))))
 
 add-i : tie.Need-add-i Inv-loop μ-loop
 add-i c = omega (arith, c .before .before .loop-test .taken)
@@ -64,7 +64,7 @@ loop-again c =
 returns-3 : tie.Need-returns-3 Inv-loop μ-loop
 unfolding eventsFit
 returns-3 c =
-     rw (eq-eqb _ _ (c .before .before .if1 .left)) (let e : c .before .loop .i ≡ length (c .before .before .before .args .events .now) / 2 = omega arith in sym (rw e at (c .before .loop .inv .1)))
+    rw (eq-eqb _ _ (c .before .before .if1 .left)) (let e : c .before .loop .i ≡ length (c .before .before .before .args .events .now) / 2 = omega arith in sym (rw e at (c .before .loop .inv .1)))
 
 pub events-fit-spec : {M : Type 1} → statement M
 events-fit-spec =

@@ -64,9 +64,11 @@ loop-less : tie.Need-loop-less Inv-loop μ-loop
 loop-less c = search needs
 
 loop-again : tie.Need-loop-again Inv-loop μ-loop
-loop-again c =
-    (omega (arith, c .before .before .before .before .loop-test .taken), λ states transitions. more (tables (c .before .before .before .before .before .before .before .args .machines .now) states transitions) (c .before .before .before .before .before .before .before .args .t1) (c .before .before .before .before .before .loop .m) (c .before .before .before .before .before .loop .inv .1 states transitions)
-    (sym (rw (c .before .before .word .ensures) at (c .before .state-fits .ensures)) ∙ c .if1 .taken))
+loop-again c = (
+  omega (arith, c .before .before .before .before .loop-test .taken),
+  λ states transitions. more (tables (c .before .before .before .before .before .before .before .args .machines .now) states transitions) (c .before .before .before .before .before .before .before .args .t1) (c .before .before .before .before .before .loop .m) (c .before .before .before .before .before .loop .inv .1 states transitions)
+      (sym (rw (c .before .before .word .ensures) at (c .before .state-fits .ensures)) ∙ c .if1 .taken),
+)
 
 returns : tie.Need-returns Inv-loop μ-loop
 returns c =

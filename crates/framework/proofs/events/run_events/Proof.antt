@@ -108,9 +108,13 @@ loop-less c =
 loop-again : tie.Need-loop-again Inv-loop μ-loop
 loop-again c =
     let a = c .before .before .before .before .before .before .before .before .before .before .before .before .before .before .before .before .before .before .before .before .before .before .args in let l = c .before .before .before .before .before .before .before .before .before .before .before .before .before .loop in let es = a .events .now in
-    let T = tables (a .machines .now) (a .states .now) (a .transitions .now) in let D = tapes (a .chances .now) (a .values .now) in
-    (l .inv .0, l .inv .1, λ h. l .inv .2 (c .before .before .before .before .before .before .before .before .before .before .before .before .if1 .taken), l .inv .3,
-    l .inv .4 ∙ ahead-turn T D es (length es / 2) (l .kind) (l .machine) (l .blocked) (l .m) (l .end) (l .i) (l .f) (l .actions) (l .s) (c .before .before .before .before .before .before .before .before .before .before .before .before .if1 .taken) _ (sym (rw (c .before .before .before .before .before .before .before .before .before .before .before .states-of .ensures, c .before .before .before .before .before .before .before .before .before .before .context-from .ensures, c .before .before .before .before .before .before .before .before .before .limit-falls .ensures) at (c .before .before .before .before .before .before .turn .ensures)) ∙ c .before .before .before .before .x2 .given .1))
+    let T = tables (a .machines .now) (a .states .now) (a .transitions .now) in let D = tapes (a .chances .now) (a .values .now) in (
+      l .inv .0,
+      l .inv .1,
+      λ h. l .inv .2 (c .before .before .before .before .before .before .before .before .before .before .before .before .if1 .taken),
+      l .inv .3,
+      l .inv .4 ∙ ahead-turn T D es (length es / 2) (l .kind) (l .machine) (l .blocked) (l .m) (l .end) (l .i) (l .f) (l .actions) (l .s) (c .before .before .before .before .before .before .before .before .before .before .before .before .if1 .taken) _ (sym (rw (c .before .before .before .before .before .before .before .before .before .before .before .states-of .ensures, c .before .before .before .before .before .before .before .before .before .before .context-from .ensures, c .before .before .before .before .before .before .before .before .before .limit-falls .ensures) at (c .before .before .before .before .before .before .turn .ensures)) ∙ c .before .before .before .before .x2 .given .1),
+    )
 
 returns-2 : tie.Need-returns-2 Inv-loop μ-loop
 returns-2 c =
@@ -178,10 +182,14 @@ loop-again-2 : tie.Need-loop-again-2 Inv-loop μ-loop
 loop-again-2 c =
     let a = c .before .before .before .before .before .before .before .before .before .before .before .before .before .before .before .before .before .before .before .before .before .before .args in let l = c .before .before .before .before .before .before .before .before .before .before .before .before .before .loop in let es = a .events .now in
     let T = tables (a .machines .now) (a .states .now) (a .transitions .now) in let D = tapes (a .chances .now) (a .values .now) in
-    let k = kind-fits es (l .i) (length es / 2) (c .before .before .before .before .before .before .before .before .before .before .before .if2 .left) (c .before .before .before .before .before .before .before .before .before .before .before .before .before .before .before .before .before .before .before .before .before .before .pre) in
-    (omega (arith, c .before .before .before .before .before .before .before .before .before .before .before .if2 .left), k, λ h. c .before .before .before .before .before .end-for .ensures .1 .1 (rw (← c .before .before .before .before .before .before .before .first-for .ensures) h), l .inv .3,
-    l .inv .4 ∙ ahead-taken T D es (length es / 2) (l .kind) (l .machine) (l .blocked) (l .m) (l .end) (l .i) (l .f) (l .actions) (l .s) (c .before .before .before .before .before .before .before .before .before .before .before .before .if1 .left) (c .before .before .before .before .before .before .before .before .before .before .before .if2 .left) _ _ _ _ _ _ _ _
-    (c .before .before .before .before .before .before .before .before .blocked-since .ensures) (c .before .before .before .before .before .before .before .first-for .ensures) (rw (c .before .before .before .before .before .before .smaller .ensures) at (c .before .before .before .before .before .end-for .ensures .0)) (c .before .before .before .before .normal-after .ensures) (c .before .before .before .padding-after .ensures) (c .before .before .duration-after .ensures) (c .before .started-after .ensures) (c .active-after .ensures))
+    let k = kind-fits es (l .i) (length es / 2) (c .before .before .before .before .before .before .before .before .before .before .before .if2 .left) (c .before .before .before .before .before .before .before .before .before .before .before .before .before .before .before .before .before .before .before .before .before .before .pre) in (
+      omega (arith, c .before .before .before .before .before .before .before .before .before .before .before .if2 .left),
+      k,
+      λ h. c .before .before .before .before .before .end-for .ensures .1 .1 (rw (← c .before .before .before .before .before .before .before .first-for .ensures) h),
+      l .inv .3,
+      l .inv .4 ∙ ahead-taken T D es (length es / 2) (l .kind) (l .machine) (l .blocked) (l .m) (l .end) (l .i) (l .f) (l .actions) (l .s) (c .before .before .before .before .before .before .before .before .before .before .before .before .if1 .left) (c .before .before .before .before .before .before .before .before .before .before .before .if2 .left) _ _ _ _ _ _ _ _
+          (c .before .before .before .before .before .before .before .before .blocked-since .ensures) (c .before .before .before .before .before .before .before .first-for .ensures) (rw (c .before .before .before .before .before .before .smaller .ensures) at (c .before .before .before .before .before .end-for .ensures .0)) (c .before .before .before .before .normal-after .ensures) (c .before .before .before .padding-after .ensures) (c .before .before .duration-after .ensures) (c .before .started-after .ensures) (c .active-after .ensures),
+    )
 
 pub run-events-spec : {M : Type 1} → statement M
 run-events-spec =

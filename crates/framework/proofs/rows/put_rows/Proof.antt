@@ -57,20 +57,23 @@ loop-less c = search needs
 
 loop-again : tie.Need-loop-again Inv-loop μ-loop
 loop-again c =
-    let a = c .before .before .before .before .before .before .before .before .args .t1 in let l = c .before .before .before .before .before .before .loop in let out₀ = c .before .before .before .before .before .before .before .before .args .out .now in
-    (omega (arith, c .before .before .before .before .before .loop-test .taken), omega (arith, c .before .before .put-row .ensures .0, rows-longer a (l .m), l .inv .1),
-    omega (arith, c .before .before .put-row .ensures .0, row-short (l .m) (getD a (l .m) noAction), l .inv .2),
-    same (l .out) (c .before .before .put-row .last .0) (l .at) (omega (arith, c .before .before .before .before .before .loop-test .taken, l .inv .2, l .inv .3, c .before .before .before .before .before .before .before .before .pre .1)) (c .before .before .put-row .kept .0) ∙ l .inv .3,
-    row-written a (l .m) out₀ (l .out) (c .before .before .put-row .last .0) (l .at) (l .inv .1) (l .inv .4) (c .before .before .put-row .ensures .1))
+    let a = c .before .before .before .before .before .before .before .before .args .t1 in let l = c .before .before .before .before .before .before .loop in let out₀ = c .before .before .before .before .before .before .before .before .args .out .now in (
+      omega (arith, c .before .before .before .before .before .loop-test .taken),
+      omega (arith, c .before .before .put-row .ensures .0, rows-longer a (l .m), l .inv .1),
+      omega (arith, c .before .before .put-row .ensures .0, row-short (l .m) (getD a (l .m) noAction), l .inv .2),
+      same (l .out) (c .before .before .put-row .last .0) (l .at) (omega (arith, c .before .before .before .before .before .loop-test .taken, l .inv .2, l .inv .3, c .before .before .before .before .before .before .before .before .pre .1)) (c .before .before .put-row .kept .0) ∙ l .inv .3,
+      row-written a (l .m) out₀ (l .out) (c .before .before .put-row .last .0) (l .at) (l .inv .1) (l .inv .4) (c .before .before .put-row .ensures .1),
+    )
 
 same-length : tie.Need-same-length Inv-loop μ-loop
 same-length c = c .before .loop .inv .3
 
 returns : tie.Need-returns Inv-loop μ-loop
 returns c =
-    let e : c .before .loop .m ≡ c .before .before .before .args .count = omega arith in
-    (ap (λ (n : ℕ). n / 6) (c .before .loop .inv .1 ∙ ap (λ (n : ℕ). length (actionRows (c .before .before .before .args .t1) n)) e),
-    c .before .loop .inv .4 ∙ ap (λ (n : ℕ). written (actionRows (c .before .before .before .args .t1) n) (c .before .before .before .args .out .now)) e)
+    let e : c .before .loop .m ≡ c .before .before .before .args .count = omega arith in (
+      ap (λ (n : ℕ). n / 6) (c .before .loop .inv .1 ∙ ap (λ (n : ℕ). length (actionRows (c .before .before .before .args .t1) n)) e),
+      c .before .loop .inv .4 ∙ ap (λ (n : ℕ). written (actionRows (c .before .before .before .args .t1) n) (c .before .before .before .args .out .now)) e,
+    )
 
 pub put-rows-spec : {M : Type 1} → statement M
 put-rows-spec =

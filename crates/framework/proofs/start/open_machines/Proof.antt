@@ -82,10 +82,13 @@ loop-less c = search needs
 
 loop-again : tie.Need-loop-again Inv-loop μ-loop
 loop-again c =
-    let a = c .before .before .before .before .before .before .before .before .before .before .before .before .before .before .args in let l = c .before .before .before .before .before .before .before .before .before .loop in let T : List ℕ → Tables = λ ts. tables (a .machines .now) (a .states .now) ts in let n = rowsIn (a .machines .now) in
-    (omega (arith, c .before .before .before .before .before .before .before .before .loop-test .taken), l .inv .1, λ ts.
-    l .inv .2 ts ∙ opens-on (T ts) (a .values .now) n (l .m) (l .f) (l .at) (c .before .before .before .before .before .before .before .before .loop-test .taken) _ (sym (rw (c .before .before .before .before .before .before .state-row .ensures, c .before .before .before .before .before .before .before .states-of .ensures) at (c .before .before .before .before .before .start-limit .ensures)) ∙ c .before .before .before .limit2 .given .1) _
-    (rw (c .before .word .ensures, ← l .inv .1) at (c .new-runtime .ensures)))
+    let a = c .before .before .before .before .before .before .before .before .before .before .before .before .before .before .args in let l = c .before .before .before .before .before .before .before .before .before .loop in let T : List ℕ → Tables = λ ts. tables (a .machines .now) (a .states .now) ts in let n = rowsIn (a .machines .now) in (
+      omega (arith, c .before .before .before .before .before .before .before .before .loop-test .taken),
+      l .inv .1,
+      λ ts.
+          l .inv .2 ts ∙ opens-on (T ts) (a .values .now) n (l .m) (l .f) (l .at) (c .before .before .before .before .before .before .before .before .loop-test .taken) _ (sym (rw (c .before .before .before .before .before .before .state-row .ensures, c .before .before .before .before .before .before .before .states-of .ensures) at (c .before .before .before .before .before .start-limit .ensures)) ∙ c .before .before .before .limit2 .given .1) _
+          (rw (c .before .word .ensures, ← l .inv .1) at (c .new-runtime .ensures)),
+    )
 
 returns-2 : tie.Need-returns-2 Inv-loop μ-loop
 returns-2 c =
