@@ -1,0 +1,2 @@
+-- The printed run as a definition on its input.
+pub mod Run
