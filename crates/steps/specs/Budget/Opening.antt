@@ -1,13 +1,13 @@
 -- What an accepted opening says: of the tables (at most 16 machines, no fraction above 1), of the
 -- framework's fraction, and of the framework, which counts nothing yet. Assumes nothing.
-use Prim.Native.Nat.{ℕ, zero, suc, _+_, _*_, _%_, _≤_, _<_}
-use native.Mathlib.Nat.{lt-irrefl, add-zero}
+use Prim.Native.Nat.{ℕ, zero, suc, _*_, _≤_, _<_}
+use native.Mathlib.Nat.{lt-irrefl}
 use native.Mathlib.Omega.{arith}
-use mathlib.Core.Bool.{Bool, true, false, cond, _&&_, _||_, false≢true}
+use mathlib.Core.Bool.{Bool, true, false, cond, _&&_, false≢true}
 use mathlib.Core.List.{List, [], _∷_}
 use mathlib.Core.Path.{_≡_, refl, sym, ap, _∙_, subst}
-use lib.Dec.{T, eqb, leb, leb→le, lit<}
-use lib.ListN.{length, getD, set, take, drop, replicate, length-set, length-replicate}
+use lib.Dec.{T, eqb, lit<}
+use lib.ListN.{getD, set, drop, replicate, length-set, length-replicate}
 use lib.Seq.{getD-take, getD-drop}
 use lib.Ieee.{Float, nan, inf, fin, binary64, ofBits, fits, lt, le}
 use lib.Ieee.Bits.{ofBits-fits}
@@ -17,15 +17,16 @@ use borrow.Author.Tests.{eqb-true, eqb-false}
 use Rattle.numbers.specs.Fraction.{in1074}
 use Rattle.numbers.specs.Fraction.Laws.{positive-units}
 use Rattle.numbers.specs.Positive.{positive-is, limit-positive}
-use Rattle.machine.specs.Constants.{machineMax, machineWords, stateWords, transitionWords, maxPaddingFrac}
-use Rattle.machine.specs.Dist.{zeroF, f64At}
+use Rattle.machine.specs.Constants.{machineMax, machineWords, maxPaddingFrac}
+use Rattle.machine.specs.Dist.{zeroF}
 use Rattle.machine.specs.Action.{actionOf}
 use Rattle.machine.specs.State.{rowsOf, stateRow}
 use Rattle.machine.specs.declared.dist.WholeDrawn.{WholeDrawn}
 use Rattle.machine.specs.declared.dist.WholeDrawn.the-variants.{NoWhole, GotWhole}
-use Rattle.tables.specs.First.{orElse, firstRefusal}
+use Rattle.tables.specs.First.{orElse}
 use Rattle.tables.specs.Framework.{isFraction, fractionsRefusal}
-use Rattle.tables.specs.Machine.{beyondFraction, machineRefusal, wholeTables, tablesRefusal}
+use Rattle.tables.specs.Valid.Laws.{zero-valid}
+use Rattle.tables.specs.Machine.{tablesRefusal}
 use Rattle.steps.specs.Events.{Tables, Run, Outcome, stop, go, noRuntime, runtimeAt, machineWord, statesOf}
 use Rattle.steps.specs.Framework.{rowsIn, startLimit, opened, openTurn, openRun, openedBy, opening}
 use Rattle.steps.specs.Budget.{empty}
@@ -46,79 +47,32 @@ none-of a b h = by (eqb a 0) (eqb-true a 0) (eqb-false a 0) h
     by true e n h = (e refl, h)
     by false e n h = absurd (n refl h)
 
-none-from : (f : ℕ → ℕ) (k i : ℕ) → firstRefusal f k i ≡ 0 → (j : ℕ) → j < k → f (i + j) ≡ 0
-unfolding firstRefusal
-none-from f zero i h j l = absurd (below l)
-  where
-    below : j < 0 → ⊥
-    below l = omega arith
-none-from f (suc k) i h zero l = ap f (add-zero i) ∙ none-of (f i) (firstRefusal f k (i + 1)) h .0
-none-from f (suc k) i h (suc j) l =
-    ap f (next i j) ∙ none-from f k (i + 1) (none-of (f i) (firstRefusal f k (i + 1)) h .1) j
-    (omega arith)
-  where
-    next : (i j : ℕ) → i + suc j ≡ i + 1 + j
-    next i j = omega arith
-
 not-zero : (n : ℕ) → suc n ≡ 0 → ⊥
 not-zero n e = omega arith
 
 -- ---- the tables of an accepted opening
 module _ (machines states ts : List ℕ) (ok : tablesRefusal machines states ts ≡ 0) where
-  refusalOf : ℕ → ℕ
-  refusalOf i = machineRefusal states ts (rowsOf machineWords machines i 1)
-
-  parts : T (wholeTables machines states ts) × (firstRefusal refusalOf (rowsIn machines) 0 ≡ 0)
-  unfolding tablesRefusal refusalOf
-  parts = by (wholeTables machines states ts) ok
-    where
-      by : (b : Bool) → cond b (firstRefusal refusalOf (rowsIn machines) 0) 3 ≡ 0
-          → T b × (firstRefusal refusalOf (rowsIn machines) 0 ≡ 0)
-      by true h = (tt, h)
-      by false h = absurd (not-zero 2 h)
-
   pub at-most-16 : rowsIn machines ≤ machineMax
-  unfolding wholeTables
-  at-most-16 =
-      leb→le (rowsIn machines) machineMax
-      (and-r (eqb (length machines % machineWords) 0
-      && eqb (length states % stateWords) 0 && eqb (length ts % transitionWords) 0)
-      (leb (rowsIn machines) machineMax) (parts .0))
+  at-most-16 = zero-valid machines states ts ok .whole .most
 
-  -- a machine's fraction is not above 1
-  not-above-1 : (i : ℕ) → i < rowsIn machines
-      → lt (ofBits binary64 0x3ff0_0000_0000_0000) (ofBits binary64 (machineWord machines i maxPaddingFrac)) ≡ false
-  unfolding machineRefusal beyondFraction refusalOf rowsOf
-  not-above-1 i h =
-      ap (λ (w : ℕ). lt (ofBits binary64 0x3ff0_0000_0000_0000) (ofBits binary64 w)) (sym word)
-      ∙ by (lt (f64At row maxPaddingFrac) (ofBits binary64 0))
-      (lt (ofBits binary64 0x3ff0_0000_0000_0000) (f64At row maxPaddingFrac)) _
-      (ap refusalOf (zero-plus i) ∙ none-from refusalOf (rowsIn machines) 0 (parts .1) i h)
-    where
-      row : List ℕ
-      row = take (1 * machineWords) (drop (i * machineWords) machines)
-
-      zero-plus : (i : ℕ) → i ≡ 0 + i
-      zero-plus i = omega arith
-
-      word : getD row maxPaddingFrac 0 ≡ machineWord machines i maxPaddingFrac
-      word =
-          getD-take (1 * machineWords) (drop (i * machineWords) machines) maxPaddingFrac 0 (lit< tt)
-          ∙ getD-drop (i * machineWords) machines maxPaddingFrac 0
-
-      by : (a b : Bool) (n : ℕ) → cond (a || b) 4 n ≡ 0 → b ≡ false
-      by a false n h = refl
-      by true true n h = absurd (not-zero 3 h)
-      by false true n h = absurd (not-zero 3 h)
-
+  -- a machine's fraction above 0 has units: it is not above 1
   pub machine-units : (i : ℕ) → i < rowsIn machines
       → lt zeroF (ofBits binary64 (machineWord machines i maxPaddingFrac)) ≡ true
       → 0 < in1074 (ofBits binary64 (machineWord machines i maxPaddingFrac))
-  unfolding ofBits
+  unfolding ofBits rowsOf
   machine-units i h above =
-      positive-units (ofBits binary64 (machineWord machines i maxPaddingFrac))
-      (ofBits-fits binary64 (machineWord machines i maxPaddingFrac))
-      (limit-positive (ofBits binary64 (machineWord machines i maxPaddingFrac)) above (not-above-1 i h))
+      positive-units (ofBits binary64 w) (ofBits-fits binary64 w)
+      (limit-positive (ofBits binary64 w) above
+      (ap (λ (v : ℕ). lt (ofBits binary64 0x3ff0_0000_0000_0000) (ofBits binary64 v)) (sym word)
+      ∙ zero-valid machines states ts ok .each i h .padding .1))
+    where
+      w : ℕ
+      w = machineWord machines i maxPaddingFrac
+
+      word : getD (rowsOf machineWords machines i 1) maxPaddingFrac 0 ≡ w
+      word =
+          getD-take (1 * machineWords) (drop (i * machineWords) machines) maxPaddingFrac 0 (lit< tt)
+          ∙ getD-drop (i * machineWords) machines maxPaddingFrac 0
 
 -- ---- the framework's fraction
 fraction-positive : (x : Float) → lt zeroF x ≡ true → T (le x (ofBits binary64 0x3ff0_0000_0000_0000))
