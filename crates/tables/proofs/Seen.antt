@@ -13,6 +13,7 @@ use borrow.Author.Tests.{ltb-true, ltb-false, eqb-true, eqb-false, eq-eqb, ne-eq
 use Rattle.machine.specs.Constants.{stateEnd, stateSignal}
 use Rattle.machine.specs.State.{targetAt}
 use Rattle.tables.specs.State.{isTarget, improbable, probabilityWord, transitionRefusal, seenIn, seenBefore}
+use Rattle.tables.specs.Valid.Tests.{or-true, or-false}
 use Rattle.tables.specs.Marks.{markOf, isMarked, marked}
 use Rattle.tables.proofs.Bits.{mark-same, mark-other}
 use Rattle.tables.proofs.Rows.{at}
@@ -37,14 +38,6 @@ module _ (ts : List ℕ) (target e j : ℕ) where
 or-assoc : (a b c : Bool) → (a || (b || c)) ≡ ((a || b) || c)
 or-assoc true b c = refl
 or-assoc false b c = refl
-
-or-false : (a : Bool) → (a || false) ≡ a
-or-false true = refl
-or-false false = refl
-
-or-true : (a : Bool) → (a || true) ≡ true
-or-true true = refl
-or-true false = refl
 
 last : (ts : List ℕ) (target k j : ℕ) → seenIn ts target (suc k) j ≡ (seenIn ts target k j || eqb (targetAt ts (j + k)) target)
 unfolding seenIn

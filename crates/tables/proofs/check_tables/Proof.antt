@@ -11,7 +11,7 @@ use borrow.Author.Tests.{eq-eqb, ne-eqb, le-leb, lt-leb}
 use Rattle.machine.specs.State.{rowsOf}
 use Rattle.tables.specs.First.{firstRefusal}
 use Rattle.tables.specs.Machine.{machineRefusal, wholeTables, tablesRefusal}
-use Rattle.tables.proofs.First.{first-on, first-here, first-end}
+use Rattle.tables.specs.First.Laws.{first-on, first-here, first-end}
 use Rattle.tables.proofs.Parts.{one-row, one-length}
 use Rattle.tables.proofs.check_tables.Statement.{statement}
 use Rattle.tables.proofs.check_tables.Tie as tie

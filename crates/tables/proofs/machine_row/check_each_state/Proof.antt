@@ -10,7 +10,7 @@ use Rattle.machine.specs.State.{stateRow}
 use Rattle.tables.specs.First.{firstRefusal}
 use Rattle.tables.specs.State.{stateRefusal}
 use Rattle.tables.specs.Machine.{eachState}
-use Rattle.tables.proofs.First.{first-on, first-here, first-end}
+use Rattle.tables.specs.First.Laws.{first-on, first-here, first-end}
 use Rattle.tables.proofs.Parts.{one-row, one-length}
 use Rattle.tables.proofs.machine_row.check_each_state.Statement.{statement}
 use Rattle.tables.proofs.machine_row.check_each_state.Tie as tie

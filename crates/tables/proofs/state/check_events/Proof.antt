@@ -5,7 +5,7 @@ use mathlib.Core.Path.{_≡_, refl, sym, _∙_}
 use Rattle.machine.specs.State.{firstOf, countOf}
 use Rattle.tables.specs.First.{firstRefusal}
 use Rattle.tables.specs.State.{pairRefusal, eventsRefusal}
-use Rattle.tables.proofs.First.{first-on, first-here, first-end}
+use Rattle.tables.specs.First.Laws.{first-on, first-here, first-end}
 use Rattle.tables.proofs.state.check_events.Statement.{statement}
 use Rattle.tables.proofs.state.check_events.Tie as tie
 

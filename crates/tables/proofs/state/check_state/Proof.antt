@@ -3,7 +3,7 @@ use borrow.Author.Needs.{needs}
 use mathlib.Core.Path.{sym, _∙_}
 use Rattle.tables.specs.First.{orElse}
 use Rattle.tables.specs.State.{stateRefusal}
-use Rattle.tables.proofs.First.{former}
+use Rattle.tables.specs.First.Laws.{former}
 use Rattle.tables.proofs.state.check_state.Statement.{statement}
 use Rattle.tables.proofs.state.check_state.Tie as tie
 
