@@ -44,8 +44,10 @@ unfolding seenIn
 last ts target zero j = rw (add-zero j) (or-false (eqb (targetAt ts j) target))
 last ts target (suc k) j =
     let s : j + suc k ≡ j + 1 + k = omega arith in
-    let more : seenIn ts target (suc k) (j + 1) ≡ (seenIn ts target k (j + 1) || eqb (targetAt ts (j + suc k)) target) = rw s (last ts target k (j + 1)) in
-    ap (λ (b : Bool). eqb (targetAt ts j) target || b) more ∙ or-assoc (eqb (targetAt ts j) target) (seenIn ts target k (j + 1)) (eqb (targetAt ts (j + suc k)) target)
+    let here = eqb (targetAt ts j) target in
+    let end = eqb (targetAt ts (j + suc k)) target in
+    let more : seenIn ts target (suc k) (j + 1) ≡ (seenIn ts target k (j + 1) || end) = rw s (last ts target k (j + 1)) in
+    ap (λ (b : Bool). here || b) more ∙ or-assoc here (seenIn ts target k (j + 1)) end
 
 seen-last : (ts : List ℕ) (target first i : ℕ) → first ≤ i →
     seenIn ts target (i + 1 - first) first ≡ (seenIn ts target (i - first) first || eqb (targetAt ts i) target)

@@ -37,7 +37,8 @@ module _ (f : ℕ → ℕ) (e i : ℕ) where
 -- ---- where it is met, of f at i, i + 1, .., k of them: all are 0, or one is the answer and those before it are 0
 pub data Met (f : ℕ → ℕ) (k i : ℕ) : Type 0 where
   none : firstRefusal f k i ≡ 0 → ((j : ℕ) → i ≤ j → j < i + k → f j ≡ 0) → Met f k i
-  some : (p : ℕ) → i ≤ p → p < i + k → f p ≡ firstRefusal f k i → 0 < firstRefusal f k i → ((j : ℕ) → i ≤ j → j < p → f j ≡ 0) → Met f k i
+  some : (p : ℕ) → i ≤ p → p < i + k → f p ≡ firstRefusal f k i → 0 < firstRefusal f k i →
+      ((j : ℕ) → i ≤ j → j < p → f j ≡ 0) → Met f k i
 
 pub met : (f : ℕ → ℕ) (k i : ℕ) → Met f k i
 unfolding firstRefusal

@@ -114,7 +114,9 @@ module _ (ts : List ℕ) (n first count : ℕ) where
           PairAnswer ts n first count (orElse (firstRefusal (at ts n first) count first) rest)
       by (inl (r, f)) =
           first-transition (above rest r) within
-          (subst (λ (m : ℕ). FirstAt (ValidTransition ts n first) (λ i. TransitionAnswer ts n first i m) first (first + count)) (sym (is-first rest r)) f)
+          (subst
+          (λ (m : ℕ). FirstAt (ValidTransition ts n first) (λ i. TransitionAnswer ts n first i m) first (first + count))
+          (sym (is-first rest r)) f)
       by (inr (e, all)) =
           subst (λ (m : ℕ). PairAnswer ts n first count m) (sym (second e)) (sum (improbable (sumFrom ts first count (ofBits binary32 0))) refl)
         where
@@ -226,7 +228,9 @@ module _ (states ts row : List ℕ) where
       MachineAnswer states ts row (eachState ts n (rowsOf stateWords states (getD row firstState 0) n))
   unfolding eachState
   each-answered p b w =
-      by (scan onState n 0 n (zero-add n) GoodState AnswerOf (λ j h e. zero-state ts n (stateOf states row j) e) (λ j h. state-answered ts n (stateOf states row j)))
+      by
+      (scan onState n 0 n (zero-add n) GoodState AnswerOf (λ j h e. zero-state ts n (stateOf states row j) e)
+      (λ j h. state-answered ts n (stateOf states row j)))
     where
       by : Scanned onState n 0 n GoodState AnswerOf → MachineAnswer states ts row (firstRefusal onState n 0)
       by (inl (r, f)) = first-state r p b w f
@@ -237,7 +241,8 @@ module _ (states ts row : List ℕ) where
   unfolding statesRefusal
   states-answered p b = by (eqb n 0) refl (ltb stateMax n) refl (leb ((getD row firstState 0 + n) * stateWords) (length states)) refl
     where
-      by : (x : Bool) → eqb n 0 ≡ x → (y : Bool) → ltb stateMax n ≡ y → (z : Bool) → leb ((getD row firstState 0 + n) * stateWords) (length states) ≡ z →
+      by : (x : Bool) → eqb n 0 ≡ x → (y : Bool) → ltb stateMax n ≡ y →
+          (z : Bool) → leb ((getD row firstState 0 + n) * stateWords) (length states) ≡ z →
           MachineAnswer states ts row (cond (x || y) 6 (cond z (eachState ts n (rowsOf stateWords states (getD row firstState 0) n)) 7))
       by true x y u z v = six refl p b (inl (eqb-true n 0 x))
       by false x true u z v = six refl p b (inr (ltb-true stateMax n u))
@@ -271,7 +276,13 @@ module _ (states ts row : List ℕ) where
   unfolding machineRefusal statesRefusal eachState
   machine-zero v =
       let some : n ≡ 0 → ⊥ = λ e. omega (arith, v .place .some) in
-      rw (of-fraction _ (v .padding), of-fraction _ (v .blocking), ne-eqb n 0 some, le-ltb stateMax n (v .place .most), le-leb _ _ (v .place .within))
+      rw (
+        of-fraction _ (v .padding),
+        of-fraction _ (v .blocking),
+        ne-eqb n 0 some,
+        le-ltb stateMax n (v .place .most),
+        le-leb _ _ (v .place .within),
+      )
       (all-zero onState n 0 (λ j h g. state-zero ts n (stateOf states row j) (v .each j (subst (λ (m : ℕ). j < m) (zero-add n) g))))
 
 -- ---- all tables
@@ -286,13 +297,30 @@ module _ (machines states ts : List ℕ) where
   abbrev machineOf : ℕ → List ℕ
   machineOf i = rowsOf machineWords machines i 1
 
+  abbrev onMachine : ℕ → ℕ
+  onMachine i = machineRefusal states ts (machineOf i)
+
+  abbrev GoodMachine : ℕ → Type 0
+  GoodMachine i = ValidMachine states ts (machineOf i)
+
+  abbrev OnMachine : ℕ → ℕ → Type 0
+  OnMachine i r = MachineAnswer states ts (machineOf i) r
+
   whole : wholeTables machines states ts ≡ true → Whole machines states ts
   unfolding wholeTables
   whole e =
-      let u = and-split (eqb (length machines % machineWords) 0 && eqb (length states % stateWords) 0 && eqb (length ts % transitionWords) 0) (leb many machineMax) e in
-      let v = and-split (eqb (length machines % machineWords) 0 && eqb (length states % stateWords) 0) (eqb (length ts % transitionWords) 0) (u .0) in
-      let w = and-split (eqb (length machines % machineWords) 0) (eqb (length states % stateWords) 0) (v .0) in
-      record { machine-rows = eqb-true _ 0 (w .0); state-rows = eqb-true _ 0 (w .1); transition-rows = eqb-true _ 0 (v .1); most = leb-true _ _ (u .1) }
+      let a = eqb (length machines % machineWords) 0 in
+      let b = eqb (length states % stateWords) 0 in
+      let c = eqb (length ts % transitionWords) 0 in
+      let u = and-split (a && b && c) (leb many machineMax) e in
+      let v = and-split (a && b) c (u .0) in
+      let w = and-split a b (v .0) in
+      record {
+        machine-rows = eqb-true _ 0 (w .0);
+        state-rows = eqb-true _ 0 (w .1);
+        transition-rows = eqb-true _ 0 (v .1);
+        most = leb-true _ _ (u .1);
+      }
 
   of-whole : Whole machines states ts → wholeTables machines states ts ≡ true
   unfolding wholeTables
@@ -304,17 +332,16 @@ module _ (machines states ts : List ℕ) where
   answered = by (wholeTables machines states ts) refl
     where
       each : Whole machines states ts →
-          Scanned (λ i. machineRefusal states ts (machineOf i)) many 0 many (λ i. ValidMachine states ts (machineOf i)) (λ i r. MachineAnswer states ts (machineOf i) r) →
-          TablesAnswer machines states ts (firstRefusal (λ i. machineRefusal states ts (machineOf i)) many 0)
+          Scanned onMachine many 0 many GoodMachine OnMachine → TablesAnswer machines states ts (firstRefusal onMachine many 0)
       each w (inl (r, f)) = first-machine r w f
       each w (inr (e, all)) = tables-pass e (record { whole = w; each = λ i h. all i (omega arith) h })
 
       by : (b : Bool) → wholeTables machines states ts ≡ b →
-          TablesAnswer machines states ts (cond b (firstRefusal (λ i. machineRefusal states ts (machineOf i)) many 0) 3)
+          TablesAnswer machines states ts (cond b (firstRefusal onMachine many 0) 3)
       by false p = three refl (λ w. clash (of-whole w) p)
       by true p =
           each (whole p)
-          (scan (λ i. machineRefusal states ts (machineOf i)) many 0 many (zero-add many) (λ i. ValidMachine states ts (machineOf i)) (λ i r. MachineAnswer states ts (machineOf i) r)
+          (scan onMachine many 0 many (zero-add many) GoodMachine OnMachine
           (λ j h e. zero-machine states ts (machineOf j) e) (λ j h. machine-answered states ts (machineOf j)))
 
   -- No refusal is met exactly where the tables are valid.
@@ -330,5 +357,5 @@ module _ (machines states ts : List ℕ) where
   unfolding tablesRefusal
   valid-zero v =
       rw (of-whole (v .whole))
-      (all-zero (λ i. machineRefusal states ts (machineOf i)) many 0
+      (all-zero onMachine many 0
       (λ j h g. machine-zero states ts (machineOf j) (v .each j (subst (λ (m : ℕ). j < m) (zero-add many) g))))

@@ -95,7 +95,8 @@ module _ (ts : List ℕ) (t : ℕ) where
   seen-in zero j e = absurd (false≢true e)
   seen-in (suc k) j e =
       ⊎-elim (λ p. (j, (omega arith, (omega arith, eqb-true (targetAt ts j) t p))))
-      (λ p. let s = seen-in k (j + 1) p in (s .0, (omega (arith, s .1 .0), (omega (arith, s .1 .1 .0), s .1 .1 .1)))) (or-some (eqb (targetAt ts j) t) (seenIn ts t k (j + 1)) e)
+      (λ p. let s = seen-in k (j + 1) p in (s .0, (omega (arith, s .1 .0), (omega (arith, s .1 .1 .0), s .1 .1 .1))))
+      (or-some (eqb (targetAt ts j) t) (seenIn ts t k (j + 1)) e)
 
 module _ (ts : List ℕ) (first i : ℕ) (from : first ≤ i) where
   pub unseen : seenBefore ts first i ≡ false → Seen ts first i → ⊥
