@@ -1,4 +1,3 @@
-pub mod First
 pub mod Rows
 pub mod Dists
 pub mod Bits

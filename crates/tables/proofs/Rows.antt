@@ -9,7 +9,7 @@ use lib.Ieee.{Float, binary32, ofBits, add}
 use Rattle.machine.specs.State.{probabilityAt}
 use Rattle.tables.specs.First.{orElse, firstRefusal}
 use Rattle.tables.specs.State.{transitionRefusal, seenBefore, sumFrom, sumRefusal, rowRefusal, pairRefusal}
-use Rattle.tables.proofs.First.{second, former, first-on, first-here, first-end}
+use Rattle.tables.specs.First.Laws.{second, former, first-on, first-here, first-end}
 
 -- the refusal of transition i of a row that begins at `first`
 abbrev pub at : List ℕ → ℕ → ℕ → ℕ → ℕ

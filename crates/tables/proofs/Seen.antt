@@ -13,6 +13,7 @@ use borrow.Author.Tests.{ltb-true, ltb-false, eqb-true, eqb-false, eq-eqb, ne-eq
 use Rattle.machine.specs.Constants.{stateEnd, stateSignal}
 use Rattle.machine.specs.State.{targetAt}
 use Rattle.tables.specs.State.{isTarget, improbable, probabilityWord, transitionRefusal, seenIn, seenBefore}
+use Rattle.tables.specs.Valid.Tests.{or-true, or-false}
 use Rattle.tables.specs.Marks.{markOf, isMarked, marked}
 use Rattle.tables.proofs.Bits.{mark-same, mark-other}
 use Rattle.tables.proofs.Rows.{at}
@@ -38,21 +39,15 @@ or-assoc : (a b c : Bool) → (a || (b || c)) ≡ ((a || b) || c)
 or-assoc true b c = refl
 or-assoc false b c = refl
 
-or-false : (a : Bool) → (a || false) ≡ a
-or-false true = refl
-or-false false = refl
-
-or-true : (a : Bool) → (a || true) ≡ true
-or-true true = refl
-or-true false = refl
-
 last : (ts : List ℕ) (target k j : ℕ) → seenIn ts target (suc k) j ≡ (seenIn ts target k j || eqb (targetAt ts (j + k)) target)
 unfolding seenIn
 last ts target zero j = rw (add-zero j) (or-false (eqb (targetAt ts j) target))
 last ts target (suc k) j =
     let s : j + suc k ≡ j + 1 + k = omega arith in
-    let more : seenIn ts target (suc k) (j + 1) ≡ (seenIn ts target k (j + 1) || eqb (targetAt ts (j + suc k)) target) = rw s (last ts target k (j + 1)) in
-    ap (λ (b : Bool). eqb (targetAt ts j) target || b) more ∙ or-assoc (eqb (targetAt ts j) target) (seenIn ts target k (j + 1)) (eqb (targetAt ts (j + suc k)) target)
+    let here = eqb (targetAt ts j) target in
+    let end = eqb (targetAt ts (j + suc k)) target in
+    let more : seenIn ts target (suc k) (j + 1) ≡ (seenIn ts target k (j + 1) || end) = rw s (last ts target k (j + 1)) in
+    ap (λ (b : Bool). here || b) more ∙ or-assoc here (seenIn ts target k (j + 1)) end
 
 seen-last : (ts : List ℕ) (target first i : ℕ) → first ≤ i →
     seenIn ts target (i + 1 - first) first ≡ (seenIn ts target (i - first) first || eqb (targetAt ts i) target)

@@ -1,4 +1,5 @@
--- Refusals in order, each by its number; 0 where there is none.
+-- Refusals in order, each by its number; 0 where there is none. Definitions; laws stand in `Laws`.
+pub mod Laws
 use Prim.Native.Nat.{ℕ, zero, suc, _+_}
 use mathlib.Core.Bool.{cond}
 use lib.Dec.{eqb}

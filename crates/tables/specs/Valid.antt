@@ -59,7 +59,8 @@ pub record KnownAction (row : List ℕ) : Type 0 where
   pub timer : actionOf row ≡ cancel → getD row timer 0 ≤ 2
   pub flags : sendPadding ≤ actionOf row → getD row flags 0 ≤ 3
   pub limit : sendPadding ≤ actionOf row → getD row limit 0 ≤ 2
-  pub timeout : sendPadding ≤ actionOf row → actionOf row ≤ blockOutgoing → (0 < getD row timeout 0) × (getD row timeout 0 ≤ 2)
+  pub timeout : sendPadding ≤ actionOf row → actionOf row ≤ blockOutgoing →
+      (0 < getD row timeout 0) × (getD row timeout 0 ≤ 2)
   pub duration : blockOutgoing ≤ actionOf row → (0 < getD row duration 0) × (getD row duration 0 ≤ 2)
 
 -- the counter at word k: none, or operation, copy and kind
@@ -78,7 +79,8 @@ ValidDist row k = validate (distAt row k) ≡ true
 pub record ValidAction (row : List ℕ) : Type 0 where
   pub timeout : (actionOf row ≡ sendPadding) ⊎ (actionOf row ≡ blockOutgoing) → ValidDist row timeout
   pub duration : (actionOf row ≡ blockOutgoing) ⊎ (actionOf row ≡ updateTimer) → ValidDist row duration
-  pub limit : (actionOf row ≡ sendPadding) ⊎ ((actionOf row ≡ blockOutgoing) ⊎ (actionOf row ≡ updateTimer)) → ValidDist row limit
+  pub limit : (actionOf row ≡ sendPadding) ⊎ ((actionOf row ≡ blockOutgoing) ⊎ (actionOf row ≡ updateTimer)) →
+      ValidDist row limit
 
 abbrev pub ValidCounter : List ℕ → ℕ → Type 0
 ValidCounter row k = (getD row k 0 ≡ 0) ⊎ ValidDist row (k + 2)
@@ -112,7 +114,8 @@ pub record ValidMachine (states ts row : List ℕ) : Type 0 where
   pub padding : Fraction (f64At row maxPaddingFrac)
   pub blocking : Fraction (f64At row maxBlockingFrac)
   pub place : ValidPlace states (getD row firstState 0) (getD row numStates 0)
-  pub each : (state : ℕ) → state < getD row numStates 0 → ValidState ts (getD row numStates 0) (stateOf states row state)
+  pub each : (state : ℕ) → state < getD row numStates 0 →
+      ValidState ts (getD row numStates 0) (stateOf states row state)
 
 pub record Whole (machines states ts : List ℕ) : Type 0 where
   pub machine-rows : length machines % machineWords ≡ 0
@@ -122,7 +125,8 @@ pub record Whole (machines states ts : List ℕ) : Type 0 where
 
 pub record Valid (machines states ts : List ℕ) : Type 0 where
   pub whole : Whole machines states ts
-  pub each : (i : ℕ) → i < length machines / machineWords → ValidMachine states ts (rowsOf machineWords machines i 1)
+  pub each : (i : ℕ) → i < length machines / machineWords →
+      ValidMachine states ts (rowsOf machineWords machines i 1)
 
 -- ---- the first place at which a refusal is met: all before it is good
 pub record FirstAt (Good Bad : ℕ → Type 0) (from to : ℕ) : Type 0 where
@@ -136,8 +140,10 @@ pub record FirstAt (Good Bad : ℕ → Type 0) (from to : ℕ) : Type 0 where
 pub data TransitionAnswer (ts : List ℕ) (n first i r : ℕ) : Type 0 where
   transition-passes : r ≡ 0 → ValidTransition ts n first i → TransitionAnswer ts n first i r
   nine : r ≡ 9 → 4294967296 ≤ probabilityWord ts i → TransitionAnswer ts n first i r
-  ten : r ≡ 10 → probabilityWord ts i < 4294967296 → (Target n (targetAt ts i) → ⊥) → TransitionAnswer ts n first i r
-  eleven : r ≡ 11 → probabilityWord ts i < 4294967296 → Target n (targetAt ts i) → Seen ts first i → TransitionAnswer ts n first i r
+  ten : r ≡ 10 → probabilityWord ts i < 4294967296 → (Target n (targetAt ts i) → ⊥) →
+      TransitionAnswer ts n first i r
+  eleven : r ≡ 11 → probabilityWord ts i < 4294967296 → Target n (targetAt ts i) → Seen ts first i →
+      TransitionAnswer ts n first i r
   twelve : r ≡ 12 → probabilityWord ts i < 4294967296 → Target n (targetAt ts i) → (Seen ts first i → ⊥) →
       (Probability (probabilityAt ts i) → ⊥) → TransitionAnswer ts n first i r
 
@@ -145,8 +151,9 @@ pub data PairAnswer (ts : List ℕ) (n first count r : ℕ) : Type 0 where
   pair-passes : r ≡ 0 → ValidPair ts n first count → PairAnswer ts n first count r
   eight : r ≡ 8 → 0 < count → length ts < (first + count) * transitionWords → PairAnswer ts n first count r
   first-transition : 0 < r → (first + count) * transitionWords ≤ length ts →
-      FirstAt (ValidTransition ts n first) (λ i. TransitionAnswer ts n first i r) first (first + count) → PairAnswer ts n first count r
-  thirteen : r ≡ 13 → (first + count) * transitionWords ≤ length ts →
+      FirstAt (ValidTransition ts n first) (λ i. TransitionAnswer ts n first i r) first (first + count) →
+      PairAnswer ts n first count r
+  thirteen : r ≡ 13 → 0 < count → (first + count) * transitionWords ≤ length ts →
       ((i : ℕ) → first ≤ i → i < first + count → ValidTransition ts n first i) →
       (Probability (sumFrom ts first count (ofBits binary32 0)) → ⊥) → PairAnswer ts n first count r
 
@@ -161,7 +168,8 @@ pub data StateAnswer (ts : List ℕ) (n : ℕ) (row : List ℕ) (r : ℕ) : Type
 pub data MachineAnswer (states ts row : List ℕ) (r : ℕ) : Type 0 where
   machine-passes : r ≡ 0 → ValidMachine states ts row → MachineAnswer states ts row r
   four : r ≡ 4 → (Fraction (f64At row maxPaddingFrac) → ⊥) → MachineAnswer states ts row r
-  five : r ≡ 5 → Fraction (f64At row maxPaddingFrac) → (Fraction (f64At row maxBlockingFrac) → ⊥) → MachineAnswer states ts row r
+  five : r ≡ 5 → Fraction (f64At row maxPaddingFrac) → (Fraction (f64At row maxBlockingFrac) → ⊥) →
+      MachineAnswer states ts row r
   six : r ≡ 6 → Fraction (f64At row maxPaddingFrac) → Fraction (f64At row maxBlockingFrac) →
       (getD row numStates 0 ≡ 0) ⊎ (stateMax < getD row numStates 0) → MachineAnswer states ts row r
   seven : r ≡ 7 → Fraction (f64At row maxPaddingFrac) → Fraction (f64At row maxBlockingFrac) →

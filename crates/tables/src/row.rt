@@ -1,5 +1,10 @@
 // state.rs, `State::validate`: refusals 9 to 13 of a row of transitions, in one pass. `n` is the
 // number of the machine's states.
+//
+// A repeated target is found in a short row by looking back over it, at most 496 comparisons for 32
+// transitions. A longer row marks its targets: one clearing of 128 bytes, or of 12.5 KB where the
+// machine has more than 1,022 states, then one test for each transition. A row with more than n + 2
+// transitions repeats a target, so no walk is longer than n + 3.
 use super::marks;
 use machine::constants::STATE_END;
 use machine::constants::STATE_SIGNAL;
@@ -12,6 +17,12 @@ ghost use Rattle.machine.specs.Constants.{stateMax};
 ghost use Rattle.machine.specs.State.{targetAt};
 ghost use Rattle.tables.specs.State as Spec;
 ghost use Rattle.tables.specs.Marks.{isMarked};
+
+// The most transitions of a row that is looked back over: to clear marks would cost more.
+const SHORT_ROW: usize = 32;
+
+// The most states whose marks fit 16 words.
+const FEW_STATES: u64 = 1022;
 
 // ---- one transition
 
@@ -88,6 +99,7 @@ fn seen_before(transitions: &[u64], first: usize, i: usize) -> bool
     false
 }
 
+// One turn a transition: its refusals, then its part of the sum.
 fn check_short_row(transitions: &[u64], n: u64, first: usize, end: usize) -> u64
     requires { ⌜ first ≤ end ⌝ ∗ ⌜ end * 2 ≤ length (now transitions) ⌝ }
     ensures { λ r. ⌜ r ≡ Spec.rowRefusal (now (transitions .entry)) n first (end - first) ⌝ }
@@ -131,7 +143,7 @@ fn check_marked_row(transitions: &[u64], n: u64, first: usize, end: usize, marks
     check_sum(sum)
 }
 
-// A row of a machine with up to 1,022 states: fewer marks to clear.
+// A row of a machine with few states, and so with few marks to clear.
 fn check_row_of_few(transitions: &[u64], n: u64, first: usize, end: usize) -> u64
     requires { ⌜ n ≤ 1022 ⌝ ∗ ⌜ first ≤ end ⌝ ∗ ⌜ end * 2 ≤ length (now transitions) ⌝ }
     ensures { λ r. ⌜ r ≡ Spec.rowRefusal (now (transitions .entry)) n first (end - first) ⌝ }
@@ -151,15 +163,15 @@ fn check_row_of_many(transitions: &[u64], n: u64, first: usize, end: usize) -> u
 
 // ---- a row
 
-// The rows from `first` to `end`. To look back over a short row is cheaper than to clear marks.
+// The transitions from row `first` to row `end`.
 pub fn check_row(transitions: &[u64], n: u64, first: usize, end: usize) -> u64
     requires { ⌜ n ≤ stateMax ⌝ ∗ ⌜ first ≤ end ⌝ ∗ ⌜ end * 2 ≤ length (now transitions) ⌝ }
     ensures { λ r. ⌜ r ≡ Spec.rowRefusal (now (transitions .entry)) n first (end - first) ⌝ }
 {
-    if end - first <= 32 {
+    if end - first <= SHORT_ROW {
         return check_short_row(transitions, n, first, end);
     }
-    if n <= 1022 {
+    if n <= FEW_STATES {
         return check_row_of_few(transitions, n, first, end);
     }
     check_row_of_many(transitions, n, first, end)

@@ -1,10 +1,13 @@
 // state.rs, `State::validate`: refusals 8 to 15 of a state, whose 58 words are `row`.
+use machine::constants::ABSENT;
 use machine::constants::ACTION;
 use machine::constants::BLOCK_OUTGOING;
 use machine::constants::CANCEL;
 use machine::constants::COUNTER_A;
 use machine::constants::COUNTER_B;
+use machine::constants::COUNTER_DIST;
 use machine::constants::DURATION;
+use machine::constants::EVENT_NUM;
 use machine::constants::EVENTS;
 use machine::constants::FLAGS;
 use machine::constants::LIMIT;
@@ -12,6 +15,7 @@ use machine::constants::SEND_PADDING;
 use machine::constants::TIMEOUT;
 use machine::constants::TIMER;
 use machine::constants::TRANSITION_WORDS;
+use machine::constants::UNIFORM;
 use machine::constants::UPDATE_TIMER;
 ghost use mathlib.Core.Path.{_≡_};
 ghost use Prim.Native.Nat.{_+_, _≤_, _<_};
@@ -23,11 +27,11 @@ ghost use Rattle.tables.specs.State as Spec;
 // ---- refusals 8 to 13: rows of transitions
 
 // One event. Where its count is 0 it has no row, and its first row is not read.
-fn check_event(transitions: &[u64], n: u64, row: &[u64], event: usize) -> u64
+fn check_event(transitions: &[u64], n: u64, row: &[u64], event: u64) -> u64
     requires { ⌜ n ≤ stateMax ⌝ ∗ ⌜ length (now row) ≡ stateWords ⌝ ∗ ⌜ event < eventNum ⌝ }
     ensures { λ r. ⌜ r ≡ Spec.pairRefusal (now (transitions .entry)) n (firstOf (now (row .entry)) event) (countOf (now (row .entry)) event) ⌝ }
 {
-    let at = EVENTS + event * 2;
+    let at = EVENTS + (event as usize) * 2;
     let count = row[at + 1] as usize;
     if count == 0 {
         return 0;
@@ -43,12 +47,13 @@ fn check_event(transitions: &[u64], n: u64, row: &[u64], event: usize) -> u64
     super::row::check_row(transitions, n, first, first + count)
 }
 
+// Event by event, in the order of `Event`.
 fn check_events(transitions: &[u64], n: u64, row: &[u64]) -> u64
     requires { ⌜ n ≤ stateMax ⌝ ∗ ⌜ length (now row) ≡ stateWords ⌝ }
     ensures { λ r. ⌜ r ≡ Spec.eventsRefusal (now (transitions .entry)) n (now (row .entry)) ⌝ }
 {
     let mut event = 0;
-    while event < 13 {
+    while event < EVENT_NUM {
         let refusal = check_event(transitions, n, row, event);
         if refusal != 0 {
             return refusal;
@@ -60,10 +65,11 @@ fn check_events(transitions: &[u64], n: u64, row: &[u64]) -> u64
 
 // ---- refusal 14: codes
 
+// The kind of a distribution that the action needs.
 fn needed_unknown(kind: u64) -> bool
     ensures { λ r. ⌜ r ≡ Spec.neededUnknown kind ⌝ }
 {
-    if kind == 0 {
+    if kind == ABSENT {
         return true;
     }
     kind > 2
@@ -80,6 +86,7 @@ fn common_unknown(row: &[u64]) -> bool
     row[LIMIT] > 2
 }
 
+// Cancel uses its timer alone.
 fn action_unknown(row: &[u64]) -> bool
     requires { ⌜ length (now row) ≡ stateWords ⌝ }
     ensures { λ r. ⌜ r ≡ Spec.actionUnknown (now (row .entry)) ⌝ }
@@ -130,7 +137,7 @@ fn counter_unknown(row: &[u64], k: usize) -> bool
     if row[k + 1] > 1 {
         return true;
     }
-    row[k + 2] > 2
+    row[k + COUNTER_DIST] > 2
 }
 
 fn codes_unknown(row: &[u64]) -> bool
@@ -153,7 +160,7 @@ fn invalid(row: &[u64], k: usize) -> bool
     requires { ⌜ length (now row) ≡ stateWords ⌝ ∗ ⌜ k + 5 ≤ stateWords ⌝ }
     ensures { λ r. ⌜ r ≡ Spec.invalid (now (row .entry)) k ⌝ }
 {
-    if row[k] != 1 {
+    if row[k] != UNIFORM {
         return false;
     }
     let low = numbers::f64_of_word(row[k + 1]);
@@ -200,7 +207,7 @@ fn counter_invalid(row: &[u64], k: usize) -> bool
     if row[k] == 0 {
         return false;
     }
-    invalid(row, k + 2)
+    invalid(row, k + COUNTER_DIST)
 }
 
 fn dists_invalid(row: &[u64]) -> bool

@@ -181,6 +181,17 @@ fn long(refusal: u64, count: u64, place: usize, target: u64) {
 
 // ---- the cases
 
+// Refusals 1 and 2 of the framework's own fractions, and none.
+fn framework_fractions() {
+    let nan = 0.0 / 0.0;
+    say(tables::check_fractions(0.0, 1.0) == 0);
+    say(tables::check_fractions(-0.0, 0.5) == 0);
+    say(tables::check_fractions(1.5, 2.0) == 1);
+    say(tables::check_fractions(nan, 0.0) == 1);
+    say(tables::check_fractions(1.0, -0.5) == 2);
+    say(tables::check_fractions(0.0, nan) == 2);
+}
+
 // Refusal 3, and none.
 fn forms() {
     // valid tables of 16 machines
@@ -357,6 +368,7 @@ fn long_rows() {
 }
 
 fn main() {
+    framework_fractions();
     forms();
     fractions();
     places();

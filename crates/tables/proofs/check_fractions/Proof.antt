@@ -14,12 +14,20 @@ is-fraction-requires-2 c κs = search needs
 returns : tie.Need-returns
 unfolding fractionsRefusal
 returns c =
-    rw (sym (c .before .before .before .is-fraction .ensures) ∙ c .before .before .if1 .taken, sym (c .before .is-fraction2 .ensures) ∙ c .if2 .taken)
+    rw (
+      sym (c .before .before .before .is-fraction .ensures) ∙ c .before .before .if1 .taken,
+      sym
+          (c .before .is-fraction2 .ensures) ∙ c .if2 .taken,
+    )
 
 returns-2 : tie.Need-returns-2
 unfolding fractionsRefusal
 returns-2 c =
-    rw (sym (c .before .before .before .is-fraction .ensures) ∙ c .before .before .if1 .taken, sym (c .before .is-fraction2 .ensures) ∙ c .if2 .left)
+    rw (
+      sym (c .before .before .before .is-fraction .ensures) ∙ c .before .before .if1 .taken,
+      sym
+          (c .before .is-fraction2 .ensures) ∙ c .if2 .left,
+    )
 
 returns-3 : tie.Need-returns-3
 unfolding fractionsRefusal

@@ -11,14 +11,15 @@ use borrow.Author.Tests.{eq-eqb, ne-eqb, le-leb, lt-leb}
 use Rattle.machine.specs.State.{rowsOf}
 use Rattle.tables.specs.First.{firstRefusal}
 use Rattle.tables.specs.Machine.{machineRefusal, wholeTables, tablesRefusal}
-use Rattle.tables.proofs.First.{first-on, first-here, first-end}
+use Rattle.tables.specs.First.Laws.{first-on, first-here, first-end}
 use Rattle.tables.proofs.Parts.{one-row, one-length}
 use Rattle.tables.proofs.check_tables.Statement.{statement}
 use Rattle.tables.proofs.check_tables.Tie as tie
 
 abbrev Inv-loop : tie.InvT-loop
 Inv-loop machines states transitions n i₀ i =
-    (i ≤ n) × (tablesRefusal machines states transitions ≡ firstRefusal (λ k. machineRefusal states transitions (rowsOf 6 machines k 1)) (n - i) i)
+    (i ≤ n) × (tablesRefusal machines states transitions ≡ firstRefusal (λ k. machineRefusal states
+    transitions (rowsOf 6 machines k 1)) (n - i) i)
 
 abbrev μ-loop : tie.MeasureT-loop
 μ-loop machines states transitions n i₀ i = n - i
@@ -34,17 +35,37 @@ returns-2 c = rw (eq-eqb _ _ (c .before .if1 .left), ne-eqb _ _ (c .if2 .taken))
 returns-3 : tie.Need-returns-3 Inv-loop μ-loop
 unfolding tablesRefusal wholeTables
 returns-3 c =
-    rw (eq-eqb _ _ (c .before .before .if1 .left), eq-eqb _ _ (c .before .if2 .left), ne-eqb _ _ (c .if3 .taken))
+    rw (
+      eq-eqb _ _ (c .before .before .if1 .left),
+      eq-eqb _ _ (c .before .if2 .left),
+      ne-eqb _ _
+          (c .if3 .taken),
+    )
 
 returns-4 : tie.Need-returns-4 Inv-loop μ-loop
 unfolding tablesRefusal wholeTables
 returns-4 c =
-    rw (eq-eqb _ _ (c .before .before .before .if1 .left), eq-eqb _ _ (c .before .before .if2 .left), eq-eqb _ _ (c .before .if3 .left), lt-leb _ _ (c .if4 .taken))
+    rw (
+      eq-eqb _ _ (c .before .before .before .if1 .left),
+      eq-eqb _ _ (c .before .before .if2 .left),
+      eq-eqb _ _ (c .before .if3 .left),
+      lt-leb _ _ (c .if4 .taken),
+    )
 
 loop-holds : tie.Need-loop-holds Inv-loop μ-loop
 unfolding tablesRefusal wholeTables
-loop-holds c =
-    (search needs, rw (eq-eqb _ _ (c .before .before .before .if1 .left), eq-eqb _ _ (c .before .before .if2 .left), eq-eqb _ _ (c .before .if3 .left), le-leb _ _ (c .if4 .left), sub-zero (length (now (c .before .before .before .before .before .before .before .args .machines)) / 6)))
+loop-holds c = (
+  search needs,
+  rw (
+    eq-eqb _ _ (c .before .before .before .if1 .left),
+    eq-eqb _ _
+        (c .before .before .if2 .left),
+    eq-eqb _ _ (c .before .if3 .left),
+    le-leb _ _ (c .if4 .left),
+    sub-zero (length (now (c .before .before .before .before .before .before .before .args .machines)) /
+        6),
+  ),
+)
 
 mul-at : tie.Need-mul-at Inv-loop μ-loop
 mul-at c = search needs
@@ -66,12 +87,14 @@ part-check-machine-end c = search needs
 
 check-machine-requires : tie.Need-check-machine-requires Inv-loop μ-loop
 check-machine-requires c κs =
-    one-length 6 (now (c .before .before .before .before .before .before .before .before .before .before .args .machines)) (c .before .before .loop .i) (omega (arith, c .before .loop-test .taken))
+    one-length 6 (now (c .before .before .before .before .before .before .before .before .before .before .args .machines))
+    (c .before .before .loop .i) (omega (arith, c .before .loop-test .taken))
 
 returns-5 : tie.Need-returns-5 Inv-loop μ-loop
 returns-5 c =
     let e = rw (one-row 6 _ _) at (c .before .check-machine .ensures) in
-    e ∙ sym (c .before .before .before .before .loop .inv .1 ∙ first-here _ _ _ (c .before .before .before .loop-test .taken) (λ z. c .if5 .taken (e ∙ z)))
+    e ∙ sym (c .before .before .before .before .loop .inv .1 ∙ first-here _ _ _
+    (c .before .before .before .loop-test .taken) (λ z. c .if5 .taken (e ∙ z)))
 
 add-i : tie.Need-add-i Inv-loop μ-loop
 add-i c = search needs
@@ -81,8 +104,11 @@ loop-less c = search needs
 
 loop-again : tie.Need-loop-again Inv-loop μ-loop
 loop-again c =
-    let e = rw (one-row 6 _ _) at (c .before .check-machine .ensures) in
-    (search needs, c .before .before .before .before .loop .inv .1 ∙ first-on _ _ _ (c .before .before .before .loop-test .taken) (sym e ∙ c .if5 .left))
+    let e = rw (one-row 6 _ _) at (c .before .check-machine .ensures) in (
+      search needs,
+      c .before .before .before .before .loop .inv .1 ∙ first-on _ _ _
+          (c .before .before .before .loop-test .taken) (sym e ∙ c .if5 .left),
+    )
 
 returns-6 : tie.Need-returns-6 Inv-loop μ-loop
 returns-6 c = sym (c .before .loop .inv .1 ∙ first-end _ _ _ (c .loop-test .left))

@@ -101,7 +101,9 @@ known-action row e = by (which (actionOf row))
           duration = λ h. absurd (omega arith);
         }
     by (is-block z o w p) =
-        let u = or-none (commonUnknown row || neededUnknown (getD row timeout 0)) (neededUnknown (getD row duration 0)) (rw (z, o, w, eq-eqb (actionOf row) 3 p) at e) in
+        let u =
+        or-none (commonUnknown row || neededUnknown (getD row timeout 0)) (neededUnknown (getD row duration 0))
+        (rw (z, o, w, eq-eqb (actionOf row) 3 p) at e) in
         let v = or-none (commonUnknown row) (neededUnknown (getD row timeout 0)) (u .0) in
         let c = common row (v .0) in
         record {

@@ -15,6 +15,7 @@ use Rattle.machine.specs.Constants.{stateMax, machineMax, eventNum, machineWord
 use Rattle.machine.specs.Dist.{f64At}
 use Rattle.machine.specs.State.{rowsOf, firstOf, countOf, targetAt, probabilityAt}
 use Rattle.tables.specs.First.{orElse, firstRefusal}
+use Rattle.tables.specs.First.Laws.{second, former, Met, none, some, met, all-zero}
 use Rattle.tables.specs.State.{probabilityWord, isTarget, improbable, transitionRefusal, seenBefore, sumFrom, sumRefusal, rowRefusal, pairRefusal, codesUnknown, distsInvalid, eventsRefusal, stateRefusal}
 use Rattle.tables.specs.Machine.{beyondFraction, eachState, statesRefusal, machineRefusal, wholeTables, tablesRefusal}
 use Rattle.tables.specs.Valid.{Fraction, Probability, Target, Seen, ValidTransition, ValidRow, ValidPair, ValidEvents, KnownCodes, ValidDists, ValidState, ValidPlace, stateOf, ValidMachine, Whole, Valid, FirstAt}
@@ -24,48 +25,7 @@ use Rattle.tables.specs.Valid.Tests.{fraction, no-fraction, of-fraction,
 use Rattle.tables.specs.Valid.Fields.{known-codes, of-known-codes, valid-dists, of-valid-dists}
 
 -- ---- the first refusal met, of f at i, i + 1, .., k of them
--- all are 0, or one is the answer and those before it are 0
-data Met (f : ℕ → ℕ) (k i : ℕ) : Type 0 where
-  none : firstRefusal f k i ≡ 0 → ((j : ℕ) → i ≤ j → j < i + k → f j ≡ 0) → Met f k i
-  some : (p : ℕ) → i ≤ p → p < i + k → f p ≡ firstRefusal f k i → 0 < firstRefusal f k i → ((j : ℕ) → i ≤ j → j < p → f j ≡ 0) → Met f k i
-
-or-zero : {a b : ℕ} → a ≡ 0 → orElse a b ≡ b
-unfolding orElse
-or-zero {a} p = rw (eq-eqb a 0 p)
-
-or-some : {a : ℕ} (b : ℕ) → (a ≡ 0 → ⊥) → orElse a b ≡ a
-unfolding orElse
-or-some {a} b p = rw (ne-eqb a 0 p)
-
-met : (f : ℕ → ℕ) (k i : ℕ) → Met f k i
-unfolding firstRefusal
-met f zero i = none refl (λ j h g. absurd (omega arith))
-met f (suc k) i = here (met f k (i + 1)) (eqb (f i) 0) refl
-  where
-    from : f i ≡ 0 → Met f k (i + 1) → Met f (suc k) i
-    from p (none e all) =
-        none (or-zero p ∙ e)
-        (λ j h g. ⊎-elim (λ q. subst (λ (m : ℕ). f m ≡ 0) q p) (λ q. all j (omega arith) (omega arith)) (eq-or-lt-of-le h))
-    from p (some at low high e r all) =
-        let o : orElse (f i) (firstRefusal f k (i + 1)) ≡ firstRefusal f k (i + 1) = or-zero p in
-        some at (omega arith) (omega arith) (e ∙ sym o) (subst (λ (m : ℕ). 0 < m) (sym o) r)
-        (λ j h g. ⊎-elim (λ q. subst (λ (m : ℕ). f m ≡ 0) q p) (λ q. all j (omega arith) g) (eq-or-lt-of-le h))
-
-    here : Met f k (i + 1) → (b : Bool) → eqb (f i) 0 ≡ b → Met f (suc k) i
-    here m true p = from (eqb-true (f i) 0 p) m
-    here m false p =
-        let o : orElse (f i) (firstRefusal f k (i + 1)) ≡ f i = or-some _ (eqb-false (f i) 0 p) in
-        let n : f i ≡ 0 → ⊥ = eqb-false (f i) 0 p in
-        let r : 0 < f i = omega arith in
-        some i (omega arith) (omega arith) (sym o) (subst (λ (m : ℕ). 0 < m) (sym o) r) (λ j h g. absurd (omega arith))
-
-all-zero : (f : ℕ → ℕ) (k i : ℕ) → ((j : ℕ) → i ≤ j → j < i + k → f j ≡ 0) → firstRefusal f k i ≡ 0
-unfolding firstRefusal
-all-zero f zero i h = refl
-all-zero f (suc k) i h =
-    or-zero (h i (omega arith) (omega arith)) ∙ all-zero f k (i + 1) (λ j l g. h j (omega arith) (omega arith))
-
--- the same, with what f's answers say: of 0 that j is good, of any other what `Answer` says
+-- with what f's answers say: of 0 that j is good, of any other what `Answer` says
 abbrev Scanned : (ℕ → ℕ) → ℕ → ℕ → ℕ → (ℕ → Type 0) → (ℕ → ℕ → Type 0) → Type 0
 Scanned f k i to Good Answer =
     ((0 < firstRefusal f k i) × FirstAt Good (λ j. Answer j (firstRefusal f k i)) i to)
@@ -92,7 +52,7 @@ scan f k i to reach Good Answer good answer = by (met f k i)
 -- a refusal that is met first is the answer, whatever comes after
 module _ {a : ℕ} (b : ℕ) (r : 0 < a) where
   is-first : orElse a b ≡ a
-  is-first = or-some b (λ e. omega arith)
+  is-first = former b (λ e. omega arith)
 
   above : 0 < orElse a b
   above = subst (λ (m : ℕ). 0 < m) (sym is-first) r
@@ -140,9 +100,9 @@ abbrev at : List ℕ → ℕ → ℕ → ℕ → ℕ
 at ts n first i = transitionRefusal ts n i (seenBefore ts first i)
 
 module _ (ts : List ℕ) (n first count : ℕ) where
-  row-answered : (first + count) * transitionWords ≤ length ts → PairAnswer ts n first count (rowRefusal ts n first count)
+  row-answered : 0 < count → (first + count) * transitionWords ≤ length ts → PairAnswer ts n first count (rowRefusal ts n first count)
   unfolding rowRefusal sumRefusal
-  row-answered within =
+  row-answered more within =
       by
       (scan (at ts n first) count first (first + count) refl (ValidTransition ts n first) (TransitionAnswer ts n first)
       (λ j h e. zero-transition ts n first j h e) (λ j h. transition-answered ts n first j h))
@@ -154,12 +114,14 @@ module _ (ts : List ℕ) (n first count : ℕ) where
           PairAnswer ts n first count (orElse (firstRefusal (at ts n first) count first) rest)
       by (inl (r, f)) =
           first-transition (above rest r) within
-          (subst (λ (m : ℕ). FirstAt (ValidTransition ts n first) (λ i. TransitionAnswer ts n first i m) first (first + count)) (sym (is-first rest r)) f)
+          (subst
+          (λ (m : ℕ). FirstAt (ValidTransition ts n first) (λ i. TransitionAnswer ts n first i m) first (first + count))
+          (sym (is-first rest r)) f)
       by (inr (e, all)) =
-          subst (λ (m : ℕ). PairAnswer ts n first count m) (sym (or-zero e)) (sum (improbable (sumFrom ts first count (ofBits binary32 0))) refl)
+          subst (λ (m : ℕ). PairAnswer ts n first count m) (sym (second e)) (sum (improbable (sumFrom ts first count (ofBits binary32 0))) refl)
         where
           sum : (b : Bool) → improbable (sumFrom ts first count (ofBits binary32 0)) ≡ b → PairAnswer ts n first count (cond b 13 0)
-          sum true p = thirteen refl within all (no-probability _ p)
+          sum true p = thirteen refl more within all (no-probability _ p)
           sum false p = pair-passes refl (inr (record { within = within; transitions = all; sum = probability _ p }))
 
   pair-answered : PairAnswer ts n first count (pairRefusal ts n first count)
@@ -169,7 +131,7 @@ module _ (ts : List ℕ) (n first count : ℕ) where
       by : (a : Bool) → eqb count 0 ≡ a → (b : Bool) → leb ((first + count) * transitionWords) (length ts) ≡ b →
           PairAnswer ts n first count (cond a 0 (cond b (rowRefusal ts n first count) 8))
       by true p b q = pair-passes refl (inl (eqb-true count 0 p))
-      by false p true q = row-answered (leb-true _ _ q)
+      by false p true q = row-answered (positive count (eqb-false count 0 p)) (leb-true _ _ q)
       by false p false q = eight refl (positive count (eqb-false count 0 p)) (leb-false _ _ q)
 
   zero-pair : pairRefusal ts n first count ≡ 0 → ValidPair ts n first count
@@ -179,7 +141,7 @@ module _ (ts : List ℕ) (n first count : ℕ) where
       by (pair-passes r v) = v
       by (eight r h g) = absurd (omega arith)
       by (first-transition r h f) = absurd (omega arith)
-      by (thirteen r h a s) = absurd (omega arith)
+      by (thirteen r m h a s) = absurd (omega arith)
 
   pair-zero : ValidPair ts n first count → pairRefusal ts n first count ≡ 0
   unfolding pairRefusal rowRefusal sumRefusal
@@ -188,7 +150,7 @@ module _ (ts : List ℕ) (n first count : ℕ) where
     where
       passed : rowRefusal ts n first count ≡ 0
       passed =
-          or-zero (all-zero (at ts n first) count first (λ j h g. transition-zero ts n first j h (v .transitions j h g)))
+          second (all-zero (at ts n first) count first (λ j h g. transition-zero ts n first j h (v .transitions j h g)))
           ∙ rw (of-probability _ (v .sum))
 
       by : (a : Bool) → cond a 0 (cond (leb ((first + count) * transitionWords) (length ts)) (rowRefusal ts n first count) 8) ≡ 0
@@ -222,7 +184,7 @@ module _ (ts : List ℕ) (n : ℕ) (row : List ℕ) where
           first-event (above rest r)
           (subst (λ (m : ℕ). FirstAt GoodEvent (λ event. EventAnswer event m) 0 eventNum) (sym (is-first rest r)) f)
       by (inr (e, all)) =
-          subst (λ (m : ℕ). StateAnswer ts n row m) (sym (or-zero e)) (fields (codesUnknown row) refl (distsInvalid row) refl)
+          subst (λ (m : ℕ). StateAnswer ts n row m) (sym (second e)) (fields (codesUnknown row) refl (distsInvalid row) refl)
         where
           events : ValidEvents ts n row
           events event h = all event (omega arith) h
@@ -245,7 +207,7 @@ module _ (ts : List ℕ) (n : ℕ) (row : List ℕ) where
   state-zero : ValidState ts n row → stateRefusal ts n row ≡ 0
   unfolding stateRefusal eventsRefusal
   state-zero v =
-      or-zero (all-zero (onEvent ts n row) eventNum 0 (λ j h g. pair-zero ts n (firstOf row j) (countOf row j) (v .events j g)))
+      second (all-zero (onEvent ts n row) eventNum 0 (λ j h g. pair-zero ts n (firstOf row j) (countOf row j) (v .events j g)))
       ∙ rw (of-known-codes row (v .codes), of-valid-dists row (v .dists))
 
 -- ---- a machine
@@ -266,7 +228,9 @@ module _ (states ts row : List ℕ) where
       MachineAnswer states ts row (eachState ts n (rowsOf stateWords states (getD row firstState 0) n))
   unfolding eachState
   each-answered p b w =
-      by (scan onState n 0 n (zero-add n) GoodState AnswerOf (λ j h e. zero-state ts n (stateOf states row j) e) (λ j h. state-answered ts n (stateOf states row j)))
+      by
+      (scan onState n 0 n (zero-add n) GoodState AnswerOf (λ j h e. zero-state ts n (stateOf states row j) e)
+      (λ j h. state-answered ts n (stateOf states row j)))
     where
       by : Scanned onState n 0 n GoodState AnswerOf → MachineAnswer states ts row (firstRefusal onState n 0)
       by (inl (r, f)) = first-state r p b w f
@@ -277,7 +241,8 @@ module _ (states ts row : List ℕ) where
   unfolding statesRefusal
   states-answered p b = by (eqb n 0) refl (ltb stateMax n) refl (leb ((getD row firstState 0 + n) * stateWords) (length states)) refl
     where
-      by : (x : Bool) → eqb n 0 ≡ x → (y : Bool) → ltb stateMax n ≡ y → (z : Bool) → leb ((getD row firstState 0 + n) * stateWords) (length states) ≡ z →
+      by : (x : Bool) → eqb n 0 ≡ x → (y : Bool) → ltb stateMax n ≡ y →
+          (z : Bool) → leb ((getD row firstState 0 + n) * stateWords) (length states) ≡ z →
           MachineAnswer states ts row (cond (x || y) 6 (cond z (eachState ts n (rowsOf stateWords states (getD row firstState 0) n)) 7))
       by true x y u z v = six refl p b (inl (eqb-true n 0 x))
       by false x true u z v = six refl p b (inr (ltb-true stateMax n u))
@@ -311,7 +276,13 @@ module _ (states ts row : List ℕ) where
   unfolding machineRefusal statesRefusal eachState
   machine-zero v =
       let some : n ≡ 0 → ⊥ = λ e. omega (arith, v .place .some) in
-      rw (of-fraction _ (v .padding), of-fraction _ (v .blocking), ne-eqb n 0 some, le-ltb stateMax n (v .place .most), le-leb _ _ (v .place .within))
+      rw (
+        of-fraction _ (v .padding),
+        of-fraction _ (v .blocking),
+        ne-eqb n 0 some,
+        le-ltb stateMax n (v .place .most),
+        le-leb _ _ (v .place .within),
+      )
       (all-zero onState n 0 (λ j h g. state-zero ts n (stateOf states row j) (v .each j (subst (λ (m : ℕ). j < m) (zero-add n) g))))
 
 -- ---- all tables
@@ -326,13 +297,30 @@ module _ (machines states ts : List ℕ) where
   abbrev machineOf : ℕ → List ℕ
   machineOf i = rowsOf machineWords machines i 1
 
+  abbrev onMachine : ℕ → ℕ
+  onMachine i = machineRefusal states ts (machineOf i)
+
+  abbrev GoodMachine : ℕ → Type 0
+  GoodMachine i = ValidMachine states ts (machineOf i)
+
+  abbrev OnMachine : ℕ → ℕ → Type 0
+  OnMachine i r = MachineAnswer states ts (machineOf i) r
+
   whole : wholeTables machines states ts ≡ true → Whole machines states ts
   unfolding wholeTables
   whole e =
-      let u = and-split (eqb (length machines % machineWords) 0 && eqb (length states % stateWords) 0 && eqb (length ts % transitionWords) 0) (leb many machineMax) e in
-      let v = and-split (eqb (length machines % machineWords) 0 && eqb (length states % stateWords) 0) (eqb (length ts % transitionWords) 0) (u .0) in
-      let w = and-split (eqb (length machines % machineWords) 0) (eqb (length states % stateWords) 0) (v .0) in
-      record { machine-rows = eqb-true _ 0 (w .0); state-rows = eqb-true _ 0 (w .1); transition-rows = eqb-true _ 0 (v .1); most = leb-true _ _ (u .1) }
+      let a = eqb (length machines % machineWords) 0 in
+      let b = eqb (length states % stateWords) 0 in
+      let c = eqb (length ts % transitionWords) 0 in
+      let u = and-split (a && b && c) (leb many machineMax) e in
+      let v = and-split (a && b) c (u .0) in
+      let w = and-split a b (v .0) in
+      record {
+        machine-rows = eqb-true _ 0 (w .0);
+        state-rows = eqb-true _ 0 (w .1);
+        transition-rows = eqb-true _ 0 (v .1);
+        most = leb-true _ _ (u .1);
+      }
 
   of-whole : Whole machines states ts → wholeTables machines states ts ≡ true
   unfolding wholeTables
@@ -344,17 +332,16 @@ module _ (machines states ts : List ℕ) where
   answered = by (wholeTables machines states ts) refl
     where
       each : Whole machines states ts →
-          Scanned (λ i. machineRefusal states ts (machineOf i)) many 0 many (λ i. ValidMachine states ts (machineOf i)) (λ i r. MachineAnswer states ts (machineOf i) r) →
-          TablesAnswer machines states ts (firstRefusal (λ i. machineRefusal states ts (machineOf i)) many 0)
+          Scanned onMachine many 0 many GoodMachine OnMachine → TablesAnswer machines states ts (firstRefusal onMachine many 0)
       each w (inl (r, f)) = first-machine r w f
       each w (inr (e, all)) = tables-pass e (record { whole = w; each = λ i h. all i (omega arith) h })
 
       by : (b : Bool) → wholeTables machines states ts ≡ b →
-          TablesAnswer machines states ts (cond b (firstRefusal (λ i. machineRefusal states ts (machineOf i)) many 0) 3)
+          TablesAnswer machines states ts (cond b (firstRefusal onMachine many 0) 3)
       by false p = three refl (λ w. clash (of-whole w) p)
       by true p =
           each (whole p)
-          (scan (λ i. machineRefusal states ts (machineOf i)) many 0 many (zero-add many) (λ i. ValidMachine states ts (machineOf i)) (λ i r. MachineAnswer states ts (machineOf i) r)
+          (scan onMachine many 0 many (zero-add many) GoodMachine OnMachine
           (λ j h e. zero-machine states ts (machineOf j) e) (λ j h. machine-answered states ts (machineOf j)))
 
   -- No refusal is met exactly where the tables are valid.
@@ -370,5 +357,5 @@ module _ (machines states ts : List ℕ) where
   unfolding tablesRefusal
   valid-zero v =
       rw (of-whole (v .whole))
-      (all-zero (λ i. machineRefusal states ts (machineOf i)) many 0
+      (all-zero onMachine many 0
       (λ j h g. machine-zero states ts (machineOf j) (v .each j (subst (λ (m : ℕ). j < m) (zero-add many) g))))

@@ -30,9 +30,13 @@ pub or-some : (a b : Bool) → a || b ≡ true → (a ≡ true) ⊎ (b ≡ true)
 or-some true b e = inl refl
 or-some false b e = inr e
 
-or-true : (a : Bool) → a || true ≡ true
+pub or-true : (a : Bool) → a || true ≡ true
 or-true true = refl
 or-true false = refl
+
+pub or-false : (a : Bool) → a || false ≡ a
+or-false true = refl
+or-false false = refl
 
 -- ---- floats
 module _ (x : Float) where
@@ -91,7 +95,8 @@ module _ (ts : List ℕ) (t : ℕ) where
   seen-in zero j e = absurd (false≢true e)
   seen-in (suc k) j e =
       ⊎-elim (λ p. (j, (omega arith, (omega arith, eqb-true (targetAt ts j) t p))))
-      (λ p. let s = seen-in k (j + 1) p in (s .0, (omega (arith, s .1 .0), (omega (arith, s .1 .1 .0), s .1 .1 .1)))) (or-some (eqb (targetAt ts j) t) (seenIn ts t k (j + 1)) e)
+      (λ p. let s = seen-in k (j + 1) p in (s .0, (omega (arith, s .1 .0), (omega (arith, s .1 .1 .0), s .1 .1 .1))))
+      (or-some (eqb (targetAt ts j) t) (seenIn ts t k (j + 1)) e)
 
 module _ (ts : List ℕ) (first i : ℕ) (from : first ≤ i) where
   pub unseen : seenBefore ts first i ≡ false → Seen ts first i → ⊥

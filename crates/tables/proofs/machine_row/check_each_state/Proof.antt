@@ -10,14 +10,15 @@ use Rattle.machine.specs.State.{stateRow}
 use Rattle.tables.specs.First.{firstRefusal}
 use Rattle.tables.specs.State.{stateRefusal}
 use Rattle.tables.specs.Machine.{eachState}
-use Rattle.tables.proofs.First.{first-on, first-here, first-end}
+use Rattle.tables.specs.First.Laws.{first-on, first-here, first-end}
 use Rattle.tables.proofs.Parts.{one-row, one-length}
 use Rattle.tables.proofs.machine_row.check_each_state.Statement.{statement}
 use Rattle.tables.proofs.machine_row.check_each_state.Tie as tie
 
 abbrev Inv-loop : tie.InvT-loop
 Inv-loop rows transitions n count i₀ i =
-    (i ≤ n) × (eachState transitions n rows ≡ firstRefusal (λ state. stateRefusal transitions n (stateRow rows state)) (n - i) i)
+    (i ≤ n) × (eachState transitions n rows ≡ firstRefusal (λ state. stateRefusal transitions n
+    (stateRow rows state)) (n - i) i)
 
 abbrev μ-loop : tie.MeasureT-loop
 μ-loop rows transitions n count i₀ i = n - i
@@ -45,13 +46,21 @@ part-check-state-end : tie.Need-part-check-state-end Inv-loop μ-loop
 part-check-state-end c = search needs
 
 check-state-requires : tie.Need-check-state-requires Inv-loop μ-loop
-check-state-requires c κs =
-    (search needs, one-length 58 (now (c .before .before .before .before .before .args .rows)) (c .before .before .loop .i) (omega (arith, c .before .before .before .before .before .pre .0, c .before .loop-test .taken)))
+check-state-requires c κs = (
+  search needs,
+  one-length 58 (now (c .before .before .before .before .before .args .rows))
+      (c .before .before .loop .i) (omega (
+        arith,
+        c .before .before .before .before .before .pre .0,
+        c .before .loop-test .taken,
+      )),
+)
 
 returns : tie.Need-returns Inv-loop μ-loop
 returns c =
     let e = rw (one-row 58 _ _) at (c .before .check-state .ensures) in
-    e ∙ sym (c .before .before .before .before .loop .inv .1 ∙ first-here _ _ _ (c .before .before .before .loop-test .taken) (λ z. c .if1 .taken (e ∙ z)))
+    e ∙ sym (c .before .before .before .before .loop .inv .1 ∙ first-here _ _ _
+    (c .before .before .before .loop-test .taken) (λ z. c .if1 .taken (e ∙ z)))
 
 add-i : tie.Need-add-i Inv-loop μ-loop
 add-i c = search needs
@@ -61,8 +70,11 @@ loop-less c = search needs
 
 loop-again : tie.Need-loop-again Inv-loop μ-loop
 loop-again c =
-    let e = rw (one-row 58 _ _) at (c .before .check-state .ensures) in
-    (search needs, c .before .before .before .before .loop .inv .1 ∙ first-on _ _ _ (c .before .before .before .loop-test .taken) (sym e ∙ c .if1 .left))
+    let e = rw (one-row 58 _ _) at (c .before .check-state .ensures) in (
+      search needs,
+      c .before .before .before .before .loop .inv .1 ∙ first-on _ _ _
+          (c .before .before .before .loop-test .taken) (sym e ∙ c .if1 .left),
+    )
 
 returns-2 : tie.Need-returns-2 Inv-loop μ-loop
 returns-2 c = sym (c .before .loop .inv .1 ∙ first-end _ _ _ (c .loop-test .left))

@@ -17,7 +17,8 @@ beyond-fraction-requires c κs = search needs
 returns : tie.Need-returns
 unfolding machineRefusal
 returns c =
-    rw (sym (rw (c .before .before .f64-of-word .ensures) at (c .before .beyond-fraction .ensures)) ∙ c .if1 .taken)
+    rw (sym (rw (c .before .before .f64-of-word .ensures) at (c .before .beyond-fraction .ensures)) ∙
+    c .if1 .taken)
 
 shared-slice-read-f64-of-word-2 : tie.Need-shared-slice-read-f64-of-word-2
 shared-slice-read-f64-of-word-2 c = search needs
@@ -31,7 +32,13 @@ beyond-fraction-requires-2 c κs = search needs
 returns-2 : tie.Need-returns-2
 unfolding machineRefusal
 returns-2 c =
-    rw (sym (rw (c .before .before .before .before .before .before .f64-of-word .ensures) at (c .before .before .before .before .before .beyond-fraction .ensures)) ∙ c .before .before .before .before .if1 .left, sym (rw (c .before .before .f64-of-word2 .ensures) at (c .before .beyond-fraction2 .ensures)) ∙ c .if2 .taken)
+    rw (
+      sym (rw (c .before .before .before .before .before .before .f64-of-word .ensures)
+          at (c .before .before .before .before .before .beyond-fraction .ensures)) ∙
+          c .before .before .before .before .if1 .left,
+      sym (rw (c .before .before .f64-of-word2 .ensures)
+          at (c .before .beyond-fraction2 .ensures)) ∙ c .if2 .taken,
+    )
 
 shared-slice-read-check-states : tie.Need-shared-slice-read-check-states
 shared-slice-read-check-states c = search needs
@@ -45,7 +52,15 @@ check-states-requires c κs = search needs
 returns-3 : tie.Need-returns-3
 unfolding machineRefusal
 returns-3 c =
-    rw (sym (rw (c .before .before .before .before .before .before .before .before .before .f64-of-word .ensures) at (c .before .before .before .before .before .before .before .before .beyond-fraction .ensures)) ∙ c .before .before .before .before .before .before .before .if1 .left, sym (rw (c .before .before .before .before .before .f64-of-word2 .ensures) at (c .before .before .before .before .beyond-fraction2 .ensures)) ∙ c .before .before .before .if2 .left) (c .check-states .ensures)
+    rw (
+      sym (rw (c .before .before .before .before .before .before .before .before .before .f64-of-word .ensures)
+          at (c .before .before .before .before .before .before .before .before .beyond-fraction .ensures)) ∙
+          c .before .before .before .before .before .before .before .if1 .left,
+      sym
+          (rw (c .before .before .before .before .before .f64-of-word2 .ensures)
+          at (c .before .before .before .before .beyond-fraction2 .ensures)) ∙
+          c .before .before .before .if2 .left,
+    ) (c .check-states .ensures)
 
 pub check-machine-spec : {M : Type 1} → statement M
 check-machine-spec =

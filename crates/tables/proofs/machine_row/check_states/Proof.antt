@@ -19,11 +19,13 @@ unfolding statesRefusal
 returns-2 c = rw (ne-eqb _ _ (c .before .if1 .left), lt-ltb _ _ (c .if2 .taken))
 
 returns-3 : tie.Need-returns-3
-returns-3 c = beyond _ _ _ _ (c .before .before .if1 .left) (c .before .if2 .left) (omega (arith, c .if3 .taken))
+returns-3 c = beyond _ _ _ _ (c .before .before .if1 .left) (c .before .if2 .left)
+    (omega (arith, c .if3 .taken))
 
 returns-4 : tie.Need-returns-4
 returns-4 c =
-    beyond _ _ _ _ (c .before .before .before .if1 .left) (c .before .before .if2 .left) (omega (arith, c .before .if3 .left, c .if4 .taken))
+    beyond _ _ _ _ (c .before .before .before .if1 .left) (c .before .before .if2 .left)
+    (omega (arith, c .before .if3 .left, c .if4 .taken))
 
 mul-start : tie.Need-mul-start
 mul-start c = search needs
@@ -47,12 +49,22 @@ part-check-each-state-end : tie.Need-part-check-each-state-end
 part-check-each-state-end c = search needs
 
 check-each-state-requires : tie.Need-check-each-state-requires
-check-each-state-requires c κs =
-    (more-length 58 (now (c .before .before .before .before .before .before .before .args .states)) (c .before .before .before .before .before .before .before .args .first) (c .before .before .before .before .before .before .before .args .n) (omega (arith, c .before .before .if3 .left, c .before .if4 .left)), c .before .before .before .if2 .left)
+check-each-state-requires c κs = (
+  more-length 58 (now (c .before .before .before .before .before .before .before .args .states))
+      (c .before .before .before .before .before .before .before .args .first)
+      (c .before .before .before .before .before .before .before .args .n)
+      (omega (arith, c .before .before .if3 .left, c .before .if4 .left)),
+  c .before .before .before .if2 .left,
+)
 
 returns-5 : tie.Need-returns-5
 returns-5 c =
-    c .check-each-state .ensures ∙ within _ _ _ _ (c .before .before .before .before .before .if1 .left) (c .before .before .before .before .if2 .left) (omega (arith, c .before .before .before .if3 .left, c .before .before .if4 .left))
+    c .check-each-state .ensures ∙ within _ _ _ _ (c .before .before .before .before .before .if1 .left)
+    (c .before .before .before .before .if2 .left) (omega (
+      arith,
+      c .before .before .before .if3 .left,
+      c .before .before .if4 .left,
+    ))
 
 pub check-states-spec : {M : Type 1} → statement M
 check-states-spec =

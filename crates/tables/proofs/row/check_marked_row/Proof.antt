@@ -16,14 +16,26 @@ use Rattle.tables.proofs.row.check_marked_row.Tie as tie
 
 abbrev Inv-loop : tie.InvT-loop
 Inv-loop transitions n first end marks₀ sum₀ i₀ marks sum i =
-    (first ≤ i) × ((i ≤ end) × ((length marks ≡ length marks₀) × (Met marks transitions n first i × (rowRefusal transitions n first (end - first) ≡ rest transitions n first end i sum))))
+    (first ≤ i) × ((i ≤ end) × ((length marks ≡ length marks₀) × (Met marks transitions n first i ×
+    (rowRefusal transitions n first (end - first) ≡ rest transitions n first end i sum))))
 
 abbrev μ-loop : tie.MeasureT-loop
 μ-loop transitions n first end marks₀ sum₀ i₀ marks sum i = end - i
 
 loop-holds : tie.Need-loop-holds Inv-loop μ-loop
-loop-holds c =
-    (search needs, (search needs, (refl, (met-none _ _ _ _ (c .before .before .pre .1 .1 .1 .1), row-starts _ _ _ _))))
+loop-holds c = (
+  search needs,
+  (
+    search needs,
+    (
+      refl,
+      (
+        met-none _ _ _ _ (c .before .before .pre .1 .1 .1 .1),
+        row-starts _ _ _ _,
+      ),
+    ),
+  ),
+)
 
 mul-at : tie.Need-mul-at Inv-loop μ-loop
 mul-at c = search needs
@@ -39,7 +51,12 @@ mark-of-requires c κs = search needs
 
 is-marked-requires : tie.Need-is-marked-requires Inv-loop μ-loop
 is-marked-requires c κs =
-    omega (arith, c .before .mark-of .ensures .1, c .before .before .before .before .loop .inv .1 .1 .0, c .before .before .before .before .before .before .before .pre .1 .1 .1 .0)
+    omega (
+      arith,
+      c .before .mark-of .ensures .1,
+      c .before .before .before .before .loop .inv .1 .1 .0,
+      c .before .before .before .before .before .before .before .pre .1 .1 .1 .0,
+    )
 
 check-transition-requires : tie.Need-check-transition-requires Inv-loop μ-loop
 check-transition-requires c κs = search needs
@@ -49,12 +66,25 @@ same-length c = c .before .before .before .before .before .before .before .loop 
 
 returns : tie.Need-returns Inv-loop μ-loop
 returns c =
-    let e = rw (c .before .before .is-marked .ensures, c .before .before .before .before .mark-of .ensures .0, by-mark _ _ _ _ _ (c .before .before .before .before .before .before .before .loop .inv .1 .1 .1 .0)) at (c .before .check-transition .ensures) in
-    e ∙ sym (c .before .before .before .before .before .before .before .loop .inv .1 .1 .1 .1 ∙ row-stops _ _ _ _ _ _ (c .before .before .before .before .before .before .loop-test .taken) (λ z. c .if1 .taken (e ∙ z)))
+    let e = rw (
+      c .before .before .is-marked .ensures,
+      c .before .before .before .before .mark-of .ensures .0,
+      by-mark _ _ _ _ _
+          (c .before .before .before .before .before .before .before .loop .inv .1 .1 .1 .0),
+    )
+    at (c .before .check-transition .ensures) in
+    e ∙ sym (c .before .before .before .before .before .before .before .loop .inv .1 .1 .1 .1 ∙
+    row-stops _ _ _ _ _ _ (c .before .before .before .before .before .before .loop-test .taken)
+    (λ z. c .if1 .taken (e ∙ z)))
 
 mark-requires : tie.Need-mark-requires Inv-loop μ-loop
 mark-requires c κs =
-    omega (arith, c .before .before .before .before .before .mark-of .ensures .1, c .before .before .before .before .before .before .before .before .loop .inv .1 .1 .0, c .before .before .before .before .before .before .before .before .before .before .before .pre .1 .1 .1 .0)
+    omega (
+      arith,
+      c .before .before .before .before .before .mark-of .ensures .1,
+      c .before .before .before .before .before .before .before .before .loop .inv .1 .1 .0,
+      c .before .before .before .before .before .before .before .before .before .before .before .pre .1 .1 .1 .0,
+    )
 
 add-f32-of-word : tie.Need-add-f32-of-word Inv-loop μ-loop
 add-f32-of-word c = search needs
@@ -76,17 +106,37 @@ loop-less c = search needs
 
 loop-again : tie.Need-loop-again Inv-loop μ-loop
 loop-again c =
-    let e = rw (c .before .before .before .before .before .before .before .before .is-marked .ensures, c .before .before .before .before .before .before .before .before .before .before .mark-of .ensures .0, by-mark _ _ _ _ _ (c .before .before .before .before .before .before .before .before .before .before .before .before .before .loop .inv .1 .1 .1 .0)) at (c .before .before .before .before .before .before .before .check-transition .ensures) in
-    let f = rw (c .before .before .before .before .before .before .before .before .before .before .mark-of .ensures .0) at (c .before .before .before .before .mark .ensures) in (
+    let e = rw (
+      c .before .before .before .before .before .before .before .before .is-marked .ensures,
+      c .before .before .before .before .before .before .before .before .before .before .mark-of .ensures .0,
+      by-mark _ _ _ _ _ (c .before .before .before .before .before .before .before .before .before .before .before .before .before .loop .inv .1 .1 .1 .0),
+    )
+    at (c .before .before .before .before .before .before .before .check-transition .ensures) in
+    let f = rw (c .before .before .before .before .before .before .before .before .before .before .mark-of .ensures .0)
+    at (c .before .before .before .before .mark .ensures) in (
       search needs,
       (
         search needs,
         (
-          ap length f ∙ marked-length _ _ ∙ c .before .before .before .before .before .before .before .before .before .before .before .before .before .loop .inv .1 .1 .0,
+          ap length f ∙ marked-length _ _ ∙
+              c .before .before .before .before .before .before .before .before .before .before .before .before .before .loop .inv .1 .1 .0,
           (
-            rw f (met-on _ _ _ _ _ (c .before .before .before .before .before .before .before .before .before .before .before .before .before .loop .inv .1 .1 .1 .0) (c .before .before .before .before .before .before .before .before .before .before .before .before .before .loop .inv .0) (omega (arith, c .before .before .before .before .before .before .before .before .before .before .mark-of .ensures .0, c .before .before .before .before .before .before .before .before .before .before .mark-of .ensures .1, c .before .before .before .before .before .before .before .before .before .before .before .before .before .loop .inv .1 .1 .0, c .before .before .before .before .before .before .before .before .before .before .before .before .before .before .before .before .pre .1 .1 .1 .0))
-                (passed _ _ _ _ (sym (c .before .before .before .before .before .before .before .check-transition .ensures) ∙ c .before .before .before .before .before .before .if1 .left))),
-            rw (c .f32-of-word .ensures) (c .before .before .before .before .before .before .before .before .before .before .before .before .before .loop .inv .1 .1 .1 .1 ∙ row-on _ _ _ _ _ _ (c .before .before .before .before .before .before .before .before .before .before .before .before .loop-test .taken) (sym e ∙ c .before .before .before .before .before .before .if1 .left)),
+            rw f (met-on _ _ _ _ _
+                (c .before .before .before .before .before .before .before .before .before .before .before .before .before .loop .inv .1 .1 .1 .0)
+                (c .before .before .before .before .before .before .before .before .before .before .before .before .before .loop .inv .0)
+                (omega (
+                  arith,
+                  c .before .before .before .before .before .before .before .before .before .before .mark-of .ensures .0,
+                  c .before .before .before .before .before .before .before .before .before .before .mark-of .ensures .1,
+                  c .before .before .before .before .before .before .before .before .before .before .before .before .before .loop .inv .1 .1 .0,
+                  c .before .before .before .before .before .before .before .before .before .before .before .before .before .before .before .before .pre .1 .1 .1 .0,
+                ))
+                (passed _ _ _ _ (sym (c .before .before .before .before .before .before .before .check-transition .ensures) ∙
+                c .before .before .before .before .before .before .if1 .left))),
+            rw (c .f32-of-word .ensures)
+                (c .before .before .before .before .before .before .before .before .before .before .before .before .before .loop .inv .1 .1 .1 .1 ∙
+                row-on _ _ _ _ _ _ (c .before .before .before .before .before .before .before .before .before .before .before .before .loop-test .taken)
+                (sym e ∙ c .before .before .before .before .before .before .if1 .left)),
           ),
         ),
       ),
@@ -100,7 +150,8 @@ same-length-2 c = c .before .before .loop .inv .1 .1 .0
 
 returns-2 : tie.Need-returns-2 Inv-loop μ-loop
 returns-2 c =
-    c .check-sum .ensures ∙ sym (c .before .before .loop .inv .1 .1 .1 .1 ∙ row-ends _ _ _ _ _ _ (c .before .loop-test .left))
+    c .check-sum .ensures ∙ sym (c .before .before .loop .inv .1 .1 .1 .1 ∙ row-ends _ _ _ _ _ _
+    (c .before .loop-test .left))
 
 pub check-marked-row-spec : {M : Type 1} → statement M
 check-marked-row-spec =

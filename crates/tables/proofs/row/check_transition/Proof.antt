@@ -34,7 +34,12 @@ is-target-requires c κs = search needs
 returns-2 : tie.Need-returns-2
 unfolding transitionRefusal
 returns-2 c =
-    rw (lt-leb _ _ (c .before .before .before .before .if1 .left), sym (c .before .before .is-target .ensures) ∙ c .before .if2 .taken, c .if3 .taken)
+    rw (
+      lt-leb _ _ (c .before .before .before .before .if1 .left),
+      sym
+          (c .before .before .is-target .ensures) ∙ c .before .if2 .taken,
+      c .if3 .taken,
+    )
 
 f32-of-word-requires : tie.Need-f32-of-word-requires
 f32-of-word-requires c κs = search needs
@@ -45,17 +50,37 @@ improbable-requires c κs = search needs
 returns-3 : tie.Need-returns-3
 unfolding transitionRefusal
 returns-3 c =
-    rw (lt-leb _ _ (c .before .before .before .before .before .before .before .if1 .left), sym (c .before .before .before .before .before .is-target .ensures) ∙ c .before .before .before .before .if2 .taken, c .before .before .before .if3 .left, sym (rw (c .before .before .f32-of-word .ensures) at (c .before .improbable .ensures)) ∙ c .if4 .taken)
+    rw (
+      lt-leb _ _ (c .before .before .before .before .before .before .before .if1 .left),
+      sym
+          (c .before .before .before .before .before .is-target .ensures) ∙
+          c .before .before .before .before .if2 .taken,
+      c .before .before .before .if3 .left,
+      sym
+          (rw (c .before .before .f32-of-word .ensures) at (c .before .improbable .ensures)) ∙ c .if4 .taken,
+    )
 
 returns-4 : tie.Need-returns-4
 unfolding transitionRefusal
 returns-4 c =
-    rw (lt-leb _ _ (c .before .before .before .before .before .before .before .if1 .left), sym (c .before .before .before .before .before .is-target .ensures) ∙ c .before .before .before .before .if2 .taken, c .before .before .before .if3 .left, sym (rw (c .before .before .f32-of-word .ensures) at (c .before .improbable .ensures)) ∙ c .if4 .left)
+    rw (
+      lt-leb _ _ (c .before .before .before .before .before .before .before .if1 .left),
+      sym
+          (c .before .before .before .before .before .is-target .ensures) ∙
+          c .before .before .before .before .if2 .taken,
+      c .before .before .before .if3 .left,
+      sym
+          (rw (c .before .before .f32-of-word .ensures) at (c .before .improbable .ensures)) ∙ c .if4 .left,
+    )
 
 returns-5 : tie.Need-returns-5
 unfolding transitionRefusal
 returns-5 c =
-    rw (lt-leb _ _ (c .before .before .before .if1 .left), sym (c .before .is-target .ensures) ∙ c .if2 .left)
+    rw (
+      lt-leb _ _ (c .before .before .before .if1 .left),
+      sym (c .before .is-target .ensures) ∙
+          c .if2 .left,
+    )
 
 pub check-transition-spec : {M : Type 1} → statement M
 check-transition-spec =

@@ -11,7 +11,8 @@ use Rattle.tables.proofs.row.seen_before.Tie as tie
 
 abbrev Inv-loop : tie.InvT-loop
 Inv-loop transitions first i target j₀ j =
-    (first ≤ j) × ((j ≤ i) × (seenBefore transitions first i ≡ seenIn transitions (targetAt transitions i) (i - j) j))
+    (first ≤ j) × ((j ≤ i) × (seenBefore transitions first i ≡ seenIn transitions (targetAt transitions
+    i) (i - j) j))
 
 abbrev μ-loop : tie.MeasureT-loop
 μ-loop transitions first i target j₀ j = i - j
@@ -39,7 +40,8 @@ shared-slice-read-if1 c = search needs
 
 returns : tie.Need-returns Inv-loop μ-loop
 returns c =
-    sym (c .before .before .before .loop .inv .1 .1 ∙ seen-here _ _ _ _ (c .before .before .loop-test .taken) (c .if1 .taken))
+    sym (c .before .before .before .loop .inv .1 .1 ∙ seen-here _ _ _ _
+    (c .before .before .loop-test .taken) (c .if1 .taken))
 
 add-j : tie.Need-add-j Inv-loop μ-loop
 add-j c = search needs
@@ -48,8 +50,14 @@ loop-less : tie.Need-loop-less Inv-loop μ-loop
 loop-less c = search needs
 
 loop-again : tie.Need-loop-again Inv-loop μ-loop
-loop-again c =
-    (search needs, (search needs, c .before .before .before .loop .inv .1 .1 ∙ seen-on _ _ _ _ (c .before .before .loop-test .taken) (c .if1 .left)))
+loop-again c = (
+  search needs,
+  (
+    search needs,
+    c .before .before .before .loop .inv .1 .1 ∙ seen-on _ _ _ _
+        (c .before .before .loop-test .taken) (c .if1 .left),
+  ),
+)
 
 returns-2 : tie.Need-returns-2 Inv-loop μ-loop
 returns-2 c = sym (c .before .loop .inv .1 .1 ∙ seen-end _ _ _ _ (c .loop-test .left))

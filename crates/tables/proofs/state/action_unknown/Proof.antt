@@ -26,7 +26,14 @@ common-unknown-requires c κs = search needs
 returns-3 : tie.Need-returns-3
 unfolding actionUnknown
 returns-3 c =
-    rw (ne-eqb _ _ (c .before .before .before .before .if1 .left), ne-eqb _ _ (c .before .before .before .if2 .left), eq-eqb _ _ (c .before .before .if3 .taken), sym (c .before .common-unknown .ensures) ∙ c .if4 .taken)
+    rw (
+      ne-eqb _ _ (c .before .before .before .before .if1 .left),
+      ne-eqb _ _
+          (c .before .before .before .if2 .left),
+      eq-eqb _ _ (c .before .before .if3 .taken),
+      sym
+          (c .before .common-unknown .ensures) ∙ c .if4 .taken,
+    )
 
 shared-slice-read-needed-unknown : tie.Need-shared-slice-read-needed-unknown
 shared-slice-read-needed-unknown c = search needs
@@ -37,7 +44,16 @@ needed-unknown-requires c κs = search needs
 returns-4 : tie.Need-returns-4
 unfolding actionUnknown
 returns-4 c =
-    rw (ne-eqb _ _ (c .before .before .before .before .before .before .if1 .left), ne-eqb _ _ (c .before .before .before .before .before .if2 .left), eq-eqb _ _ (c .before .before .before .before .if3 .taken), sym (c .before .before .before .common-unknown .ensures) ∙ c .before .before .if4 .left) (c .needed-unknown .ensures)
+    rw (
+      ne-eqb _ _ (c .before .before .before .before .before .before .if1 .left),
+      ne-eqb _ _
+          (c .before .before .before .before .before .if2 .left),
+      eq-eqb _ _
+          (c .before .before .before .before .if3 .taken),
+      sym
+          (c .before .before .before .common-unknown .ensures) ∙ c .before .before .if4 .left,
+    )
+    (c .needed-unknown .ensures)
 
 common-unknown-requires-2 : tie.Need-common-unknown-requires-2
 common-unknown-requires-2 c κs = search needs
@@ -45,7 +61,15 @@ common-unknown-requires-2 c κs = search needs
 returns-5 : tie.Need-returns-5
 unfolding actionUnknown
 returns-5 c =
-    rw (ne-eqb _ _ (c .before .before .before .before .before .if1 .left), ne-eqb _ _ (c .before .before .before .before .if2 .left), ne-eqb _ _ (c .before .before .before .if3 .left), eq-eqb _ _ (c .before .before .if5 .taken), sym (c .before .common-unknown2 .ensures) ∙ c .if6 .taken)
+    rw (
+      ne-eqb _ _ (c .before .before .before .before .before .if1 .left),
+      ne-eqb _ _
+          (c .before .before .before .before .if2 .left),
+      ne-eqb _ _ (c .before .before .before .if3 .left),
+      eq-eqb _ _ (c .before .before .if5 .taken),
+      sym (c .before .common-unknown2 .ensures) ∙
+          c .if6 .taken,
+    )
 
 shared-slice-read-needed-unknown-2 : tie.Need-shared-slice-read-needed-unknown-2
 shared-slice-read-needed-unknown-2 c = search needs
@@ -56,7 +80,18 @@ needed-unknown-requires-2 c κs = search needs
 returns-6 : tie.Need-returns-6
 unfolding actionUnknown
 returns-6 c =
-    rw (ne-eqb _ _ (c .before .before .before .before .before .before .before .before .if1 .left), ne-eqb _ _ (c .before .before .before .before .before .before .before .if2 .left), ne-eqb _ _ (c .before .before .before .before .before .before .if3 .left), eq-eqb _ _ (c .before .before .before .before .before .if5 .taken), sym (c .before .before .before .before .common-unknown2 .ensures) ∙ c .before .before .before .if6 .left, sym (c .before .needed-unknown2 .ensures) ∙ c .if7 .taken)
+    rw (
+      ne-eqb _ _ (c .before .before .before .before .before .before .before .before .if1 .left),
+      ne-eqb _ _ (c .before .before .before .before .before .before .before .if2 .left),
+      ne-eqb _ _
+          (c .before .before .before .before .before .before .if3 .left),
+      eq-eqb _ _
+          (c .before .before .before .before .before .if5 .taken),
+      sym
+          (c .before .before .before .before .common-unknown2 .ensures) ∙
+          c .before .before .before .if6 .left,
+      sym (c .before .needed-unknown2 .ensures) ∙ c .if7 .taken,
+    )
 
 shared-slice-read-needed-unknown-3 : tie.Need-shared-slice-read-needed-unknown-3
 shared-slice-read-needed-unknown-3 c = search needs
@@ -67,7 +102,19 @@ needed-unknown-requires-3 c κs = search needs
 returns-7 : tie.Need-returns-7
 unfolding actionUnknown
 returns-7 c =
-    rw (ne-eqb _ _ (c .before .before .before .before .before .before .before .before .before .before .if1 .left), ne-eqb _ _ (c .before .before .before .before .before .before .before .before .before .if2 .left), ne-eqb _ _ (c .before .before .before .before .before .before .before .before .if3 .left), eq-eqb _ _ (c .before .before .before .before .before .before .before .if5 .taken), sym (c .before .before .before .before .before .before .common-unknown2 .ensures) ∙ c .before .before .before .before .before .if6 .left, sym (c .before .before .before .needed-unknown2 .ensures) ∙ c .before .before .if7 .left) (c .needed-unknown3 .ensures)
+    rw (
+      ne-eqb _ _ (c .before .before .before .before .before .before .before .before .before .before .if1 .left),
+      ne-eqb _ _ (c .before .before .before .before .before .before .before .before .before .if2 .left),
+      ne-eqb _ _ (c .before .before .before .before .before .before .before .before .if3 .left),
+      eq-eqb _
+          _ (c .before .before .before .before .before .before .before .if5 .taken),
+      sym
+          (c .before .before .before .before .before .before .common-unknown2 .ensures) ∙
+          c .before .before .before .before .before .if6 .left,
+      sym
+          (c .before .before .before .needed-unknown2 .ensures) ∙ c .before .before .if7 .left,
+    )
+    (c .needed-unknown3 .ensures)
 
 common-unknown-requires-3 : tie.Need-common-unknown-requires-3
 common-unknown-requires-3 c κs = search needs
@@ -75,7 +122,17 @@ common-unknown-requires-3 c κs = search needs
 returns-8 : tie.Need-returns-8
 unfolding actionUnknown
 returns-8 c =
-    rw (ne-eqb _ _ (c .before .before .before .before .before .before .if1 .left), ne-eqb _ _ (c .before .before .before .before .before .if2 .left), ne-eqb _ _ (c .before .before .before .before .if3 .left), ne-eqb _ _ (c .before .before .before .if5 .left), eq-eqb _ _ (c .before .before .if8 .taken), sym (c .before .common-unknown3 .ensures) ∙ c .if9 .taken)
+    rw (
+      ne-eqb _ _ (c .before .before .before .before .before .before .if1 .left),
+      ne-eqb _ _
+          (c .before .before .before .before .before .if2 .left),
+      ne-eqb _ _
+          (c .before .before .before .before .if3 .left),
+      ne-eqb _ _ (c .before .before .before .if5 .left),
+      eq-eqb _ _ (c .before .before .if8 .taken),
+      sym (c .before .common-unknown3 .ensures) ∙
+          c .if9 .taken,
+    )
 
 shared-slice-read-needed-unknown-4 : tie.Need-shared-slice-read-needed-unknown-4
 shared-slice-read-needed-unknown-4 c = search needs
@@ -86,12 +143,32 @@ needed-unknown-requires-4 c κs = search needs
 returns-9 : tie.Need-returns-9
 unfolding actionUnknown
 returns-9 c =
-    rw (ne-eqb _ _ (c .before .before .before .before .before .before .before .before .if1 .left), ne-eqb _ _ (c .before .before .before .before .before .before .before .if2 .left), ne-eqb _ _ (c .before .before .before .before .before .before .if3 .left), ne-eqb _ _ (c .before .before .before .before .before .if5 .left), eq-eqb _ _ (c .before .before .before .before .if8 .taken), sym (c .before .before .before .common-unknown3 .ensures) ∙ c .before .before .if9 .left) (c .needed-unknown4 .ensures)
+    rw (
+      ne-eqb _ _ (c .before .before .before .before .before .before .before .before .if1 .left),
+      ne-eqb _ _ (c .before .before .before .before .before .before .before .if2 .left),
+      ne-eqb _ _
+          (c .before .before .before .before .before .before .if3 .left),
+      ne-eqb _ _
+          (c .before .before .before .before .before .if5 .left),
+      eq-eqb _ _
+          (c .before .before .before .before .if8 .taken),
+      sym
+          (c .before .before .before .common-unknown3 .ensures) ∙ c .before .before .if9 .left,
+    )
+    (c .needed-unknown4 .ensures)
 
 returns-10 : tie.Need-returns-10
 unfolding actionUnknown
 returns-10 c =
-    rw (ne-eqb _ _ (c .before .before .before .before .if1 .left), ne-eqb _ _ (c .before .before .before .if2 .left), ne-eqb _ _ (c .before .before .if3 .left), ne-eqb _ _ (c .before .if5 .left), ne-eqb _ _ (c .if8 .left))
+    rw (
+      ne-eqb _ _ (c .before .before .before .before .if1 .left),
+      ne-eqb _ _
+          (c .before .before .before .if2 .left),
+      ne-eqb _ _ (c .before .before .if3 .left),
+      ne-eqb _ _
+          (c .before .if5 .left),
+      ne-eqb _ _ (c .if8 .left),
+    )
 
 pub action-unknown-spec : {M : Type 1} → statement M
 action-unknown-spec =

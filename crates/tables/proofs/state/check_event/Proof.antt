@@ -38,7 +38,8 @@ returns-2 c = beyond _ _ _ _ (c .before .before .if1 .left) (omega (arith, c .if
 
 returns-3 : tie.Need-returns-3
 returns-3 c =
-    beyond _ _ _ _ (c .before .before .before .if1 .left) (omega (arith, c .before .if2 .left, c .if3 .taken))
+    beyond _ _ _ _ (c .before .before .before .if1 .left)
+    (omega (arith, c .before .if2 .left, c .if3 .taken))
 
 add-check-row : tie.Need-add-check-row
 add-check-row c = search needs
@@ -48,7 +49,8 @@ check-row-requires c κs = search needs
 
 returns-4 : tie.Need-returns-4
 returns-4 c =
-    c .check-row .ensures ∙ within _ _ _ _ (c .before .before .before .before .if1 .left) (omega (arith, c .before .before .if2 .left, c .before .if3 .left))
+    c .check-row .ensures ∙ within _ _ _ _ (c .before .before .before .before .if1 .left)
+    (omega (arith, c .before .before .if2 .left, c .before .if3 .left))
 
 pub check-event-spec : {M : Type 1} → statement M
 check-event-spec =

@@ -5,13 +5,14 @@ use mathlib.Core.Path.{_≡_, refl, sym, _∙_}
 use Rattle.machine.specs.State.{firstOf, countOf}
 use Rattle.tables.specs.First.{firstRefusal}
 use Rattle.tables.specs.State.{pairRefusal, eventsRefusal}
-use Rattle.tables.proofs.First.{first-on, first-here, first-end}
+use Rattle.tables.specs.First.Laws.{first-on, first-here, first-end}
 use Rattle.tables.proofs.state.check_events.Statement.{statement}
 use Rattle.tables.proofs.state.check_events.Tie as tie
 
 abbrev Inv-loop : tie.InvT-loop
 Inv-loop transitions n row event₀ event =
-    (event ≤ 13) × (eventsRefusal transitions n row ≡ firstRefusal (λ e. pairRefusal transitions n (firstOf row e) (countOf row e)) (13 - event) event)
+    (event ≤ 13) × (eventsRefusal transitions n row ≡ firstRefusal (λ e. pairRefusal transitions n
+    (firstOf row e) (countOf row e)) (13 - event) event)
 
 abbrev μ-loop : tie.MeasureT-loop
 μ-loop transitions n row event₀ event = 13 - event
@@ -25,7 +26,8 @@ check-event-requires c κs = search needs
 
 returns : tie.Need-returns Inv-loop μ-loop
 returns c =
-    c .before .check-event .ensures ∙ sym (c .before .before .before .loop .inv .1 ∙ first-here _ _ _ (c .before .before .loop-test .taken) (λ z. c .if1 .taken (c .before .check-event .ensures ∙ z)))
+    c .before .check-event .ensures ∙ sym (c .before .before .before .loop .inv .1 ∙ first-here _ _ _
+    (c .before .before .loop-test .taken) (λ z. c .if1 .taken (c .before .check-event .ensures ∙ z)))
 
 add-event : tie.Need-add-event Inv-loop μ-loop
 add-event c = search needs
@@ -34,8 +36,11 @@ loop-less : tie.Need-loop-less Inv-loop μ-loop
 loop-less c = search needs
 
 loop-again : tie.Need-loop-again Inv-loop μ-loop
-loop-again c =
-    (search needs, c .before .before .before .loop .inv .1 ∙ first-on _ _ _ (c .before .before .loop-test .taken) (sym (c .before .check-event .ensures) ∙ c .if1 .left))
+loop-again c = (
+  search needs,
+  c .before .before .before .loop .inv .1 ∙ first-on _ _ _
+      (c .before .before .loop-test .taken) (sym (c .before .check-event .ensures) ∙ c .if1 .left),
+)
 
 returns-2 : tie.Need-returns-2 Inv-loop μ-loop
 returns-2 c = sym (c .before .loop .inv .1 ∙ first-end _ _ _ (c .loop-test .left))

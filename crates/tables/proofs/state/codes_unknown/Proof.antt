@@ -18,7 +18,11 @@ counter-unknown-requires c κs = search needs
 returns-2 : tie.Need-returns-2
 unfolding codesUnknown
 returns-2 c =
-    rw (sym (c .before .before .before .action-unknown .ensures) ∙ c .before .before .if1 .left, sym (c .before .counter-unknown .ensures) ∙ c .if2 .taken)
+    rw (
+      sym (c .before .before .before .action-unknown .ensures) ∙ c .before .before .if1 .left,
+      sym
+          (c .before .counter-unknown .ensures) ∙ c .if2 .taken,
+    )
 
 counter-unknown-requires-2 : tie.Need-counter-unknown-requires-2
 counter-unknown-requires-2 c κs = search needs
@@ -26,7 +30,12 @@ counter-unknown-requires-2 c κs = search needs
 returns-3 : tie.Need-returns-3
 unfolding codesUnknown
 returns-3 c =
-    rw (sym (c .before .before .before .before .action-unknown .ensures) ∙ c .before .before .before .if1 .left, sym (c .before .before .counter-unknown .ensures) ∙ c .before .if2 .left) (c .counter-unknown2 .ensures)
+    rw (
+      sym (c .before .before .before .before .action-unknown .ensures) ∙
+          c .before .before .before .if1 .left,
+      sym (c .before .before .counter-unknown .ensures) ∙
+          c .before .if2 .left,
+    ) (c .counter-unknown2 .ensures)
 
 pub codes-unknown-spec : {M : Type 1} → statement M
 codes-unknown-spec =

@@ -31,7 +31,11 @@ shared-slice-read-if3 c = search needs
 returns-3 : tie.Need-returns-3
 unfolding counterUnknown
 returns-3 c =
-    rw (ne-eqb _ _ (c .before .before .before .if1 .left), le-ltb _ _ (c .before .before .if2 .left), lt-ltb _ _ (c .if3 .taken))
+    rw (
+      ne-eqb _ _ (c .before .before .before .if1 .left),
+      le-ltb _ _ (c .before .before .if2 .left),
+      lt-ltb _ _ (c .if3 .taken),
+    )
 
 add-result : tie.Need-add-result
 add-result c = search needs
@@ -45,7 +49,12 @@ shared-slice-read-result c = search needs
 returns-4 : tie.Need-returns-4
 unfolding counterUnknown
 returns-4 c =
-    rw (ne-eqb _ _ (c .before .before .before .before .if1 .left), le-ltb _ _ (c .before .before .before .if2 .left), le-ltb _ _ (c .before .if3 .left))
+    rw (
+      ne-eqb _ _ (c .before .before .before .before .if1 .left),
+      le-ltb _ _
+          (c .before .before .before .if2 .left),
+      le-ltb _ _ (c .before .if3 .left),
+    )
 
 pub counter-unknown-spec : {M : Type 1} → statement M
 counter-unknown-spec =

@@ -18,7 +18,11 @@ counter-invalid-requires c κs = search needs
 returns-2 : tie.Need-returns-2
 unfolding distsInvalid
 returns-2 c =
-    rw (sym (c .before .before .before .action-invalid .ensures) ∙ c .before .before .if1 .left, sym (c .before .counter-invalid .ensures) ∙ c .if2 .taken)
+    rw (
+      sym (c .before .before .before .action-invalid .ensures) ∙ c .before .before .if1 .left,
+      sym
+          (c .before .counter-invalid .ensures) ∙ c .if2 .taken,
+    )
 
 counter-invalid-requires-2 : tie.Need-counter-invalid-requires-2
 counter-invalid-requires-2 c κs = search needs
@@ -26,7 +30,12 @@ counter-invalid-requires-2 c κs = search needs
 returns-3 : tie.Need-returns-3
 unfolding distsInvalid
 returns-3 c =
-    rw (sym (c .before .before .before .before .action-invalid .ensures) ∙ c .before .before .before .if1 .left, sym (c .before .before .counter-invalid .ensures) ∙ c .before .if2 .left) (c .counter-invalid2 .ensures)
+    rw (
+      sym (c .before .before .before .before .action-invalid .ensures) ∙
+          c .before .before .before .if1 .left,
+      sym (c .before .before .counter-invalid .ensures) ∙
+          c .before .if2 .left,
+    ) (c .counter-invalid2 .ensures)
 
 pub dists-invalid-spec : {M : Type 1} → statement M
 dists-invalid-spec =

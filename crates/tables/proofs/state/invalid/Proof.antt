@@ -48,12 +48,26 @@ valid-uniform-requires c κs = search needs
 returns-2 : tie.Need-returns-2
 unfolding invalid distAt validate
 returns-2 c =
-    rw (uniform _ _ _ (c .before .before .before .before .before .before .if1 .left), sym (rw (c .before .before .before .before .f64-of-word .ensures, c .before .before .f64-of-word2 .ensures) at (c .before .valid-uniform .ensures)) ∙ c .if2 .taken)
+    rw (
+      uniform _ _ _ (c .before .before .before .before .before .before .if1 .left),
+      sym
+          (rw (
+            c .before .before .before .before .f64-of-word .ensures,
+            c .before .before .f64-of-word2 .ensures,
+          ) at (c .before .valid-uniform .ensures)) ∙ c .if2 .taken,
+    )
 
 returns-3 : tie.Need-returns-3
 unfolding invalid distAt validate
 returns-3 c =
-    rw (uniform _ _ _ (c .before .before .before .before .before .before .if1 .left), sym (rw (c .before .before .before .before .f64-of-word .ensures, c .before .before .f64-of-word2 .ensures) at (c .before .valid-uniform .ensures)) ∙ c .if2 .left)
+    rw (
+      uniform _ _ _ (c .before .before .before .before .before .before .if1 .left),
+      sym
+          (rw (
+            c .before .before .before .before .f64-of-word .ensures,
+            c .before .before .f64-of-word2 .ensures,
+          ) at (c .before .valid-uniform .ensures)) ∙ c .if2 .left,
+    )
 
 pub invalid-spec : {M : Type 1} → statement M
 invalid-spec =
