@@ -74,17 +74,17 @@ fn events_table() {
         let mut without = [0.0; 2];
         for events in [1, 4, 16] {
             let case = Case::new(count, states, events, 4000 / events / count);
-            let [rust, ours, typed, source, rust_empty, ours_empty] = medians(
+            let [rust, ours, typed, rust_empty, ours_empty] = medians(
                 BLOCKS,
                 [
                     &mut || case.time_reference(),
                     &mut || case.time_ours(),
                     &mut || case.time_typed(),
-                    &mut || case.time_source(),
                     &mut || empty.time_reference(),
                     &mut || empty.time_ours(),
                 ],
             );
+            let [source] = medians(BLOCKS / 20, [&mut || case.time_source()]);
             let each = |whole: f64, empty: f64| (whole - empty) / events as f64;
             let (rust_event, ours_event) = (each(rust, rust_empty), each(ours, ours_empty));
             print!(
