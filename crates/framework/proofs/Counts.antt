@@ -4,10 +4,11 @@ use mathlib.Core.Path.{_≡_, refl, sym, ap, subst, _∙_}
 use mathlib.Core.Bool.{Bool, true, false, cond}
 use mathlib.Core.List.{List}
 use mathlib.Core.Logic.{⊎-elim}
-use lib.Dec.{eqb, leb}
+use native.Mathlib.Omega.{arith}
+use lib.Dec.{eqb, leb, ltb}
 use borrow.Author.Tests.{leb-true, eqb-true}
 use Rattle.numbers.specs.Saturating.{saturatingAdd}
-use Rattle.machine.specs.Event.{normalSent, paddingSent, blockingBegin, blockingEnd}
+use Rattle.machine.specs.Event.{eventOf, normalSent, paddingSent, blockingBegin, blockingEnd}
 use Rattle.steps.specs.Events.{withBlocking, blockedFor, accounted, kindAt}
 use Rattle.steps.specs.Framework.{kindsFit}
 use Rattle.steps.specs.declared.Framework.{Framework}
@@ -82,3 +83,12 @@ module _ (fw : Framework) where
 pub kind-fits : (es : List ℕ) (i n : ℕ) → i < n → kindsFit es n ≡ true → kindAt es i ≤ 9
 unfolding kindsFit
 kind-fits es i n h e = leb-true _ _ (all-at (kindsFit es) (λ (k : ℕ). leb (kindAt es k) 9) (λ k. refl) i n h e)
+
+-- the `Event` of a known kind
+pub event-small : (kind : ℕ) → kind ≤ 9 → eventOf kind < 13
+unfolding eventOf
+event-small kind h =
+    ⊎-elim
+    (λ (e : ltb kind 8 ≡ true). rw e (omega arith))
+    (λ (e : ltb kind 8 ≡ false). rw e (omega arith))
+    (bool-cases (ltb kind 8))

@@ -2,19 +2,27 @@
 use Prim.Native.Nat.{ℕ, zero, suc, _+_, _-_, _≤_, _<_}
 use mathlib.Core.Path.{_≡_, refl, sym, ap, _∙_}
 use mathlib.Core.List.{List}
-use mathlib.Core.Bool.{Bool}
+use mathlib.Core.Bool.{Bool, true, false, false≢true, _||_}
+use mathlib.Core.Logic.{⊎-elim}
 use native.Mathlib.Nat.{sub-zero}
 use native.Mathlib.Omega.{arith}
+use lib.Dec.{eqb}
 use lib.ListN.{getD, set}
-use Rattle.steps.specs.Transition.{noAction}
-use Rattle.steps.specs.Events.{Tables, Tapes, Run, Outcome, stop, go, andThen, each, numMachines, runtimeAt, withRuntime, envOf, limitFalls, turn, machineTurn, firstFor, turnsFor, processEvent, kindAt, machineAt, eventTurn, blockedFor}
+use lib.Seq.{set-getD}
+use Rattle.machine.specs.Constants.{stateEnd}
+use Rattle.machine.specs.Event.{eventOf, normalSent, paddingSent, blockingEnd}
+use Rattle.machine.specs.State.{stateRow, countOf}
+use Rattle.steps.specs.Transition.{Env, noAction, done, transition, transitionBy}
+use Rattle.steps.specs.Events.{Tables, Tapes, Run, Outcome, stop, go, andThen, each, numMachines, runtimeAt, withRuntime, statesOf, envOf, countedBy, limitFalls, turn, machineTurn, firstFor, turnsFor, processEvent, kindAt, machineAt, eventTurn, blockedFor}
 use Rattle.steps.specs.declared.Framework.{Framework}
+use Rattle.steps.specs.declared.MachineRuntime.{MachineRuntime}
 use Rattle.steps.specs.declared.Shared.{Shared}
 use Rattle.steps.specs.declared.Step.{Step}
 use Rattle.steps.specs.declared.Stepped.the-variants.{Refused, Done}
 use Rattle.steps.specs.declared.TriggerAction.{TriggerAction}
-use Rattle.framework.specs.Account.{blockedSince, normalAfter, paddingAfter, durationAfter, startedAfter, activeAfter}
+use Rattle.framework.specs.Account.{idleAt, blockedSince, normalAfter, paddingAfter, durationAfter, startedAfter, activeAfter}
 use Rattle.framework.specs.Run.{run}
+use Rattle.framework.proofs.All.{bool-cases}
 use Rattle.framework.proofs.Counts.{withCounts, afterCounts, blocked-is, accounted-is}
 
 -- a turn of `each`
@@ -26,6 +34,43 @@ module _ (f : ℕ → Run → Outcome) (n i : ℕ) (x : Run) where
   pub each-on : i < n → each f (n - i) i x ≡ andThen (f i x) (each f (n - (i + 1)) (i + 1))
   unfolding each
   each-on h = let one : n - i ≡ suc (n - (i + 1)) = omega arith in rw one
+
+-- counts change no state
+counted-state : (kind blocked : ℕ) (r : MachineRuntime) → countedBy kind blocked r .«current_state» ≡ r .«current_state»
+unfolding countedBy
+counted-state kind blocked r =
+    ⊎-elim
+    (λ (a : eqb kind normalSent ≡ true). rw a)
+    (λ (a : eqb kind normalSent ≡ false).
+    ⊎-elim
+    (λ (b : eqb kind paddingSent ≡ true). rw (a, b))
+    (λ (b : eqb kind paddingSent ≡ false).
+    ⊎-elim
+    (λ (c : eqb kind blockingEnd ≡ true). rw (a, b, c))
+    (λ (c : eqb kind blockingEnd ≡ false). rw (a, b, c))
+    (bool-cases (eqb kind blockingEnd)))
+    (bool-cases (eqb kind paddingSent)))
+    (bool-cases (eqb kind normalSent))
+
+module _ (E : Env) (kind blocked : ℕ) (r : MachineRuntime) (s : Shared) (p : TriggerAction) where
+  still : (eqb (r .«current_state») stateEnd || eqb (countOf (stateRow (E .rows) (r .«current_state»)) (eventOf kind)) 0) ≡ true →
+      transition E (eventOf kind) (countedBy kind blocked r) s p ≡ done (countedBy kind blocked r) s p false
+  unfolding transitionBy
+  still e =
+      rw (counted-state kind blocked r)
+      (⊎-elim
+      (λ (a : eqb (r .«current_state») stateEnd ≡ true). rw a)
+      (λ (a : eqb (r .«current_state») stateEnd ≡ false).
+      let none : eqb (countOf (stateRow (E .rows) (r .«current_state»)) (eventOf kind)) 0 ≡ true = rw a at e in
+      rw (a, none))
+      (bool-cases (eqb (r .«current_state») stateEnd)))
+
+  -- an idle turn changes the machine's counts alone
+  idle-turn : (falls : Bool) → idleAt falls (E .rows) (r .«current_state») kind ≡ true →
+      turn E kind falls blocked r s p ≡ done (countedBy kind blocked r) s p false
+  unfolding idleAt turn
+  idle-turn true e = absurd (false≢true e)
+  idle-turn false e = rw (still e)
 
 module _ (T : Tables) (D : Tapes) (es : List ℕ) (n : ℕ) where
   -- the machines from m to `end` of the event that was taken, then the events from i on
@@ -45,6 +90,15 @@ module _ (T : Tables) (D : Tapes) (es : List ℕ) (n : ℕ) where
           ≡ ahead kind machine blocked (m + 1) end i (run (withRuntime fw (set (fw .runtime) m (d .runtime))) (set actions m (d .action)) (d .shared))
       unfolding ahead machineTurn
       ahead-turn d e = rw (each-on (machineTurn T D kind machine blocked) end m (run fw actions s) h, e)
+
+      pub ahead-idle :
+          idleAt (limitFalls kind machine m) (statesOf T m) (runtimeAt fw m .«current_state») kind ≡ true →
+          ahead kind machine blocked m end i (run fw actions s)
+          ≡ ahead kind machine blocked (m + 1) end i
+          (run (withRuntime fw (set (fw .runtime) m (countedBy kind blocked (runtimeAt fw m)))) actions s)
+      ahead-idle e =
+          ahead-turn _ (idle-turn (envOf T D fw m) kind blocked (runtimeAt fw m) s (getD actions m noAction) (limitFalls kind machine m) e)
+          ∙ rw (set-getD actions m noAction)
 
       pub ahead-stops : (why : ℕ) →
           turn (envOf T D fw m) kind (limitFalls kind machine m) blocked (runtimeAt fw m) s (getD actions m noAction) ≡ Refused why →

@@ -2,12 +2,13 @@
 -- that no step of the code takes the whole framework.
 use Prim.Native.Nat.{ℕ, _+_, _-_, _*_}
 use mathlib.Core.List.{List}
-use mathlib.Core.Bool.{Bool, cond, not}
+use mathlib.Core.Bool.{Bool, cond, not, _&&_, _||_}
 use lib.Dec.{eqb}
 use lib.Ieee.{Float, binary64, ofBits}
 use Rattle.numbers.specs.Saturating.{saturatingAdd}
-use Rattle.machine.specs.Constants.{allowedPaddingPackets, maxPaddingFrac, maxBlockingFrac}
-use Rattle.machine.specs.Event.{normalSent, paddingSent, blockingBegin, blockingEnd}
+use Rattle.machine.specs.Constants.{stateEnd, allowedPaddingPackets, maxPaddingFrac, maxBlockingFrac}
+use Rattle.machine.specs.Event.{eventOf, normalSent, paddingSent, blockingBegin, blockingEnd}
+use Rattle.machine.specs.State.{stateRow, countOf}
 use Rattle.steps.specs.Events.{machineWord}
 use Rattle.steps.specs.declared.Context.{Context}
 
@@ -37,6 +38,11 @@ unfoldable pub activeAfter : ℕ → ℕ → ℕ
 activeAfter kind active =
     cond (eqb kind blockingBegin) (cond (isOn active) active 1)
     (cond (eqb kind blockingEnd) (cond (isOn active) 0 active) active)
+
+-- a turn changes the machine's counts alone: it has ended, or its state has no row for the event; and its limit does not fall
+unfoldable pub idleAt : Bool → List ℕ → ℕ → ℕ → Bool
+idleAt falls rows state kind =
+    not falls && (eqb state stateEnd || eqb (countOf (stateRow rows state) (eventOf kind)) 0)
 
 -- what a machine's transition reads, of its row and of the framework's own numbers
 abbrev pub contextFrom : List ℕ → ℕ → ℕ → Float → ℕ → ℕ → Float → ℕ → ℕ → ℕ → ℕ → Context

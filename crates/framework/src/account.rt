@@ -1,10 +1,14 @@
 // process_event of framework.rs, but for the machines' transitions: what an event counts, and which
 // machines hear it. Each function takes the numbers that it reads and never the framework.
 use machine::constants::MACHINE_WORDS;
+use machine::constants::STATE_END;
 use machine::event::BLOCKING_BEGIN;
 use machine::event::BLOCKING_END;
 use machine::event::NORMAL_SENT;
 use machine::event::PADDING_SENT;
+use machine::event::event_of;
+use machine::state::count_of;
+use machine::state::state_row;
 use machine::state::state_rows;
 use machine::state::word;
 use steps::Context;
@@ -13,7 +17,7 @@ ghost use Prim.Native.Nat.{_+_, _≤_, _<_};
 ghost use Rattle.machine.specs.Constants.{stateWords, firstState, numStates};
 ghost use Rattle.machine.specs.State.{rowsOf};
 ghost use Rattle.steps.specs.Events.{ownOnly, limitFalls, firstFor, turnsFor, machineWord};
-ghost use Rattle.framework.specs.Account.{blockedSince, normalAfter, paddingAfter, durationAfter, startedAfter, activeAfter, contextFrom};
+ghost use Rattle.framework.specs.Account.{blockedSince, normalAfter, paddingAfter, durationAfter, startedAfter, activeAfter, idleAt, contextFrom};
 
 // TimerBegin and TimerEnd among the kinds of `TriggerEvent`.
 const TIMER_BEGIN_KIND: u64 = 8;
@@ -163,6 +167,22 @@ pub fn states_of<'a>(machines: &[u64], states: &'a [u64], m: usize) -> &'a [u64]
 {
     let at = m * MACHINE_WORDS;
     state_rows(states, word(machines, at + 4), word(machines, at + 5))
+}
+
+// Whether a turn changes the machine's counts alone: it has ended, or its state has no row for the
+// event, and the event is none at which its limit falls. Most turns are such, and then nothing else
+// of the machine needs to be passed on and stored.
+pub fn idle(falls: bool, rows: &[u64], current_state: u64, kind: u64) -> bool
+    requires { ⌜ kind ≤ 9 ⌝ }
+    ensures { λ r. ⌜ r ≡ idleAt falls (now (rows .entry)) «current_state» kind ⌝ }
+{
+    if falls {
+        return false;
+    }
+    if current_state == STATE_END {
+        return true;
+    }
+    count_of(state_row(rows, current_state), event_of(kind)) == 0
 }
 
 // Of the machine's row, and of the framework's own numbers.

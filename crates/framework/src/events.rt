@@ -5,6 +5,7 @@ use super::account::context_from;
 use super::account::duration_after;
 use super::account::end_for;
 use super::account::first_for;
+use super::account::idle;
 use super::account::limit_falls;
 use super::account::normal_after;
 use super::account::padding_after;
@@ -97,7 +98,15 @@ pub fn run_events(
     let mut blocked = 0;
     loop {
         if m < end {
+            let falls = limit_falls(kind, machine, m as u64);
             let rows = states_of(machines, states, m);
+            let r = f.runtime[m];
+            if idle(falls, rows, r.current_state, kind) {
+                let counted = transition::counted_by(kind, blocked, r);
+                f.runtime[m] = counted;
+                m = m + 1;
+                continue;
+            }
             let c = context_from(
                 machines,
                 m,
@@ -111,8 +120,6 @@ pub fn run_events(
                 f.blocking_active,
                 f.framework_start,
             );
-            let falls = limit_falls(kind, machine, m as u64);
-            let r = f.runtime[m];
             let p = actions[m];
             let x = transition::turn(
                 rows,
