@@ -1,4 +1,3 @@
 -- Laws that the proofs of `transition` cite.
 pub mod Counters
-pub mod Steps
 pub mod Events
