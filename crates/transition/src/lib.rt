@@ -88,13 +88,15 @@ pub fn update_counter(
         Counted::Uncounted(n) => return Updated::Halted(n),
         Counted::NewValue(a) => a,
     };
+    // B copies A's value from before this update
+    let old_value_a = r.counter_a;
     let y = counter::update_one(
         row,
         COUNTER_B,
         values,
         a.at,
         r.counter_b,
-        r.counter_a,
+        old_value_a,
         s.counter_b_zeroed,
     );
     let b = match y {
@@ -222,9 +224,12 @@ pub fn decrement_limit(
     e.runtime.state_limit = limit;
     e.changed = false;
     if at_limit(limit, state_row(rows, d.runtime.current_state)) {
+        // take no action, and trigger LimitReached
+        let none = action::no_action();
+        e.action = none;
         let r = e.runtime;
         let s = e.shared;
-        let none = action::no_action();
+        let p = e.action;
         return transition(
             rows,
             transitions,
@@ -234,7 +239,7 @@ pub fn decrement_limit(
             LIMIT_REACHED,
             r,
             s,
-            none,
+            p,
         );
     }
     Stepped::Done(e)

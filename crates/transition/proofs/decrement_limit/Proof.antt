@@ -24,14 +24,15 @@ transition-requires c κs = search needs
 returns : tie.Need-returns
 unfolding decrementLimit
 returns c =
-    let at-if1 = c .before .before .before .before in
+    let at-no-action = c .before .before .before .before in
+    let at-if1 = at-no-action .before in
     let at-at-limit = at-if1 .before in
     let at-state-row = at-at-limit .before in
     let at-saturating-sub = at-state-row .before .before in
     let at-args = at-saturating-sub .before .before .before .before .before in
     rw (rw (at-saturating-sub .saturating-sub .ensures, at-state-row .state-row .ensures) at
     (sym (at-at-limit .at-limit .ensures) ∙ at-if1 .if1 .taken))
-    (rw (at-saturating-sub .saturating-sub .ensures, c .before .no-action .ensures) at
+    (rw (at-saturating-sub .saturating-sub .ensures, at-no-action .no-action .ensures) at
     (c .transition .ensures 2 (at-most-two (at-args .args .d .shared))))
 
 returns-2 : tie.Need-returns-2
