@@ -1,5 +1,6 @@
--- A counter that reports zero uses up its report, so that fewer may follow: what makes the recursion of transition and update_counter
--- end, and what update_counter is where one reports. Assumes nothing.
+-- A counter that reports zero uses up its report, so that fewer may follow: what makes the
+-- recursion of transition and update_counter end, and what update_counter is where one reports.
+-- Assumes nothing.
 use Prim.Native.Nat.{ℕ, zero, suc, _+_, _-_, _≤_, _<_}
 use native.Mathlib.Nat.{lt-irrefl}
 use native.Mathlib.Omega.{arith}

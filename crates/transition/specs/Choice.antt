@@ -1,5 +1,6 @@
--- The choice of a next state as a definition of its own: what a transition does before it goes to one. `transition-is` says that it is the
--- first part of `steps`' transition, and `idle-turn` that a turn at which nothing is drawn only counts. Assumes nothing.
+-- The choice of a next state as a definition of its own: what a transition does before it goes to
+-- one. `transition-is` says that it is the first part of `steps`' transition, and `idle-turn` that
+-- a turn at which nothing is drawn only counts. Assumes nothing.
 use Prim.Native.Nat.{ℕ}
 use mathlib.Core.List.{List}
 use mathlib.Core.Bool.{Bool, true, false, cond, _||_}

@@ -1,3 +1,4 @@
--- What the contracts of `transition` cite beside the definitions of `steps`, and what its callers may use.
+-- What the contracts of `transition` cite beside the definitions of `steps`, and what its callers
+-- may use.
 pub mod Choice
 pub mod Transition

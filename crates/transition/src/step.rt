@@ -15,6 +15,7 @@ use steps::Updated;
 ghost use mathlib.Core.Path.{_≡_};
 ghost use mathlib.Core.Bool.{true, _&&_, _||_};
 ghost use Prim.Native.Nat.{_<_};
+ghost use Rattle.machine.specs.Constants.{stateEnd};
 ghost use Rattle.steps.specs.Transition as Spec;
 
 // ---- two tests
@@ -52,7 +53,7 @@ pub fn done(r: MachineRuntime, s: Shared, p: TriggerAction, changed: bool) -> St
 
 // A machine that ends keeps its limit and its pending action; that is a change.
 pub fn ended(r: MachineRuntime, s: Shared, p: TriggerAction) -> Stepped
-    ensures { λ x. ⌜ x ≡ Spec.done (Spec.withState r 4294967295 (r .«state_limit»)) s p true ⌝ }
+    ensures { λ x. ⌜ x ≡ Spec.done (Spec.withState r stateEnd (r .«state_limit»)) s p true ⌝ }
 {
     let mut q = r;
     q.current_state = STATE_END;

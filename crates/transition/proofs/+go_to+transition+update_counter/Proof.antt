@@ -1,5 +1,6 @@
--- `transition`, `go_to` and `update_counter` meet their contracts, by induction on how many counters may still report zero in this call:
--- a CounterZero transition starts with fewer (`fewer`). Assumes nothing.
+-- `transition`, `go_to` and `update_counter` meet their contracts, by induction on how many
+-- counters may still report zero in this call: a CounterZero transition starts with fewer
+-- (`fewer`). Assumes nothing.
 use Prim.Native.Nat.{_+_, _*_, _-_}
 use native.Mathlib.Omega.{arith}
 use mathlib.Core.Path.{_≡_, sym, ap, _∙_}

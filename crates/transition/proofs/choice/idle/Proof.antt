@@ -1,4 +1,5 @@
--- `idle` meets its contract: the code's tests in their order are those of the definition. Assumes nothing.
+-- `idle` meets its contract: the code's tests in their order are those of the definition. Assumes
+-- nothing.
 use borrow.Author.Needs.{needs}
 use borrow.Author.Tests.{eq-eqb, ne-eqb}
 use Rattle.transition.specs.Choice.{idle}

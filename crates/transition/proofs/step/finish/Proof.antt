@@ -1,4 +1,5 @@
--- `finish` meets its contract, by whether an action is scheduled and by what was drawn. Assumes nothing.
+-- `finish` meets its contract, by whether an action is scheduled and by what was drawn. Assumes
+-- nothing.
 use borrow.Author.Needs.{needs}
 use mathlib.Core.Path.{sym, _∙_}
 use Rattle.steps.specs.Transition.{finish}
