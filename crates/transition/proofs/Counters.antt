@@ -1,5 +1,6 @@
--- A counter that reports zero uses up its report, so that fewer may follow: what makes the recursion of transition and update_counter
--- end, and what update_counter is where one reports. Assumes nothing.
+-- A counter that reports zero uses up its report, so that fewer may follow: what makes the
+-- recursion of transition and update_counter end, and what update_counter is where one reports.
+-- Assumes nothing.
 use Prim.Native.Nat.{ℕ, zero, suc, _+_, _-_, _≤_, _<_}
 use native.Mathlib.Nat.{lt-irrefl}
 use native.Mathlib.Omega.{arith}
@@ -21,6 +22,9 @@ use Rattle.steps.specs.declared.MachineRuntime.{MachineRuntime}
 use Rattle.steps.specs.declared.Shared.{Shared}
 use Rattle.steps.specs.declared.TriggerAction.{TriggerAction}
 use Rattle.steps.specs.declared.Stepped.{Stepped}
+use Rattle.steps.specs.declared.Update.{Update}
+use Rattle.steps.specs.declared.Updated.{Updated}
+use Rattle.steps.specs.declared.Updated.the-variants.{Counters}
 
 -- ---- one counter
 abbrev one : Bool → ℕ
@@ -77,6 +81,28 @@ module _ (row : List ℕ) (k l : ℕ) (values : List Float) (at at' old other ol
 
   pub one-less : (n : ℕ) → unspent y + unspent z ≤ n → unspent (a .zeroed) + unspent (b .zeroed) ≤ n - 1
   one-less n h = omega (arith, fewer)
+
+-- ---- update_counter of a row without counters
+and-left : (a b : Bool) → (a && b) ≡ true → a ≡ true
+and-left true b e = refl
+and-left false b e = e
+
+and-right : (a b : Bool) → (a && b) ≡ true → b ≡ true
+and-right true b e = e
+and-right false b e = let z : _≡_ {A = Bool} false true = e in cc
+
+or-false : (a : Bool) → (a || false) ≡ a
+or-false true = refl
+or-false false = refl
+
+pub uncounted : (z : MachineRuntime → Shared → TriggerAction → Stepped) (E : Env) (row : List ℕ) (r : MachineRuntime) (s : Shared) (p : TriggerAction) →
+    (eqb (getD row counterA 0) 0 && eqb (getD row counterB 0) 0) ≡ true →
+    updateCounter z E row r s p ≡ Counters (record { runtime = r; shared = s; action = p; «allow_schedule» = true; «state_changed» = false })
+unfolding updateCounter updateOne
+uncounted z E row r s p e =
+    let none-a = and-left (eqb (getD row counterA 0) 0) (eqb (getD row counterB 0) 0) e in
+    let none-b = and-right (eqb (getD row counterA 0) 0) (eqb (getD row counterB 0) 0) e in
+    rw (none-a, none-b, or-false (s .«counter_a_zeroed»), or-false (s .«counter_b_zeroed»))
 
 -- ---- update_counter where one reports
 -- with any counter left, the CounterZero transition is a transition

@@ -1,4 +1,4 @@
 -- Laws that the proofs of `transition` cite.
+pub mod Blocking
 pub mod Counters
-pub mod Steps
 pub mod Events

@@ -1,2 +1,4 @@
--- What the contracts of `transition` cite beside the definitions of `steps`.
+-- What the contracts of `transition` cite beside the definitions of `steps`, and what its callers
+-- may use.
+pub mod Choice
 pub mod Transition

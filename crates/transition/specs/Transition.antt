@@ -1,4 +1,5 @@
--- The part of a transition that goes to a state of the machine, as a definition of its own, and a law for callers. Assumes nothing.
+-- The part of a transition that goes to a state of the machine, as a definition of its own, and a
+-- law for callers. Assumes nothing.
 use Prim.Native.Nat.{ℕ, _+_, _≤_}
 use native.Mathlib.Omega.{arith}
 use mathlib.Core.Bool.{Bool, true, false}

@@ -1,4 +1,6 @@
 // framework.rs: one counter of update_counter.
+use machine::constants::COUNTER_A;
+use machine::constants::COUNTER_B;
 use machine::constants::DECREMENT;
 use machine::constants::INCREMENT;
 use machine::counter::sample_value;
@@ -8,6 +10,10 @@ use machine::state::word;
 use steps::Counted;
 use steps::Counter;
 ghost use mathlib.Core.Path.{_≡_};
+ghost use mathlib.Core.Bool.{_&&_};
+ghost use lib.ListN.{getD};
+ghost use lib.Dec.{eqb};
+ghost use Rattle.machine.specs.Constants.{counterA, counterB};
 ghost use Prim.Native.Nat.{_≤_};
 ghost use Rattle.steps.specs.Transition as Spec;
 
@@ -40,7 +46,7 @@ pub fn reports_zero(old: u64, value: u64, zeroed: bool) -> bool
 pub fn counter_of(reports: bool, value: u64, zeroed: bool, at: usize) -> Counted
     ensures { λ x. ⌜ x ≡ Spec.counterOf reports value zeroed at ⌝ }
 {
-    let zeroed = super::either(zeroed, reports);
+    let zeroed = super::step::either(zeroed, reports);
     Counted::NewValue(Counter {
         value: value,
         zeroed: zeroed,
@@ -89,4 +95,14 @@ pub fn update_one(
             counter_of(reports_zero(old, value, zeroed), value, zeroed, w.at)
         }
     }
+}
+
+// Whether the row has no counter, so that nothing changes.
+pub fn no_counters(row: &[u64]) -> bool
+    ensures { λ x. ⌜ x ≡ (eqb (getD (now (row .entry)) counterA 0) 0 && eqb (getD (now (row .entry)) counterB 0) 0) ⌝ }
+{
+    if word(row, COUNTER_A) == 0 {
+        return word(row, COUNTER_B) == 0;
+    }
+    false
 }

@@ -15,9 +15,11 @@ returns c = rw (c .before .before .stepped2 .given .1, c .if1 .taken)
 
 returns-2 : tie.Need-returns-2
 returns-2 c =
-    let at-if1 = c .before .before .before in
-    let at-stepped2 = at-if1 .before .before in
-    rw (at-stepped2 .stepped2 .given .1, at-if1 .if1 .left, eq-eqb _ _ (c .if2 .taken))
+    rw (
+      c .before .before .before .before .stepped2 .given .1,
+      c .before .before .if1 .left,
+      eq-eqb _ _ (c .if2 .taken),
+    )
 
 decrement-limit-requires : tie.Need-decrement-limit-requires
 decrement-limit-requires c κs = search needs
@@ -27,10 +29,9 @@ returns-3 c = rw (c .before .stepped .given .1)
 
 returns-4 : tie.Need-returns-4
 returns-4 c =
-    let at-if2 = c .before .before .before in
-    let at-if1 = at-if2 .before .before .before in
+    let at-if1 = c .before .before .before in
     let at-stepped2 = at-if1 .before .before in
-    rw (at-stepped2 .stepped2 .given .1, at-if1 .if1 .left, ne-eqb _ _ (at-if2 .if2 .left))
+    rw (at-stepped2 .stepped2 .given .1, at-if1 .if1 .left, ne-eqb _ _ (c .before .if2 .left))
     (c .decrement-limit .ensures)
 
 pub after-own-spec : {M : Type 1} → statement M

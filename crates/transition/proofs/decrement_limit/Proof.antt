@@ -24,27 +24,27 @@ transition-requires c κs = search needs
 returns : tie.Need-returns
 unfolding decrementLimit
 returns c =
-    let at-at-limit = c .before .before .before in
+    let at-no-action = c .before .before .before .before in
+    let at-if1 = at-no-action .before in
+    let at-at-limit = at-if1 .before in
     let at-state-row = at-at-limit .before in
-    let at-saturating-sub = at-state-row .before in
+    let at-saturating-sub = at-state-row .before .before in
     let at-args = at-saturating-sub .before .before .before .before .before in
     rw (rw (at-saturating-sub .saturating-sub .ensures, at-state-row .state-row .ensures) at
-    (sym (at-at-limit .at-limit .ensures) ∙ c .before .before .if1 .taken))
-    (rw (at-saturating-sub .saturating-sub .ensures, c .before .no-action .ensures) at
-    (c .transition .ensures 2 (at-most-two (at-args .args .s))))
-
-done-requires : tie.Need-done-requires
-done-requires c κs = search needs
+    (sym (at-at-limit .at-limit .ensures) ∙ at-if1 .if1 .taken))
+    (rw (at-saturating-sub .saturating-sub .ensures, at-no-action .no-action .ensures) at
+    (c .transition .ensures 2 (at-most-two (at-args .args .d .shared))))
 
 returns-2 : tie.Need-returns-2
 unfolding decrementLimit
 returns-2 c =
-    rw (rw (
+    rw (
+      rw (
+        c .before .before .before .before .saturating-sub .ensures,
+        c .before .before .state-row .ensures,
+      ) at (sym (c .before .at-limit .ensures) ∙ c .if1 .left),
       c .before .before .before .before .saturating-sub .ensures,
-      c .before .before .before .state-row .ensures,
-    ) at
-    (sym (c .before .before .at-limit .ensures) ∙ c .before .if1 .left))
-    (rw (c .before .before .before .before .saturating-sub .ensures) at (c .done .ensures))
+    )
 
 pub decrement-limit-spec : {M : Type 1} → statement M
 decrement-limit-spec =
@@ -56,5 +56,4 @@ decrement-limit-spec =
     no-action-requires
     transition-requires
     returns
-    done-requires
     returns-2)

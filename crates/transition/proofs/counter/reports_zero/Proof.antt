@@ -1,4 +1,5 @@
--- `reports_zero` meets its contract: the code's tests in their order are those of the definition. Assumes nothing.
+-- `reports_zero` meets its contract: the code's tests in their order are those of the definition.
+-- Assumes nothing.
 use borrow.Author.Tests.{eq-eqb, ne-eqb}
 use Rattle.transition.proofs.counter.reports_zero.Statement.{statement}
 use Rattle.transition.proofs.counter.reports_zero.Tie as tie

@@ -1,4 +1,5 @@
--- `below_fraction` meets its contract: the code's tests in their order are those of the definition. Assumes nothing.
+-- `below_fraction` meets its contract: the code's tests in their order are those of the definition.
+-- Assumes nothing.
 use borrow.Author.Needs.{needs}
 use mathlib.Core.Path.{sym, _∙_}
 use borrow.Author.Tests.{eq-eqb, ne-eqb}

@@ -1,8 +1,10 @@
--- `below_limit_blocking` meets its contract: the code's tests in their order are those of the definition. Assumes nothing.
+-- `below_limit_blocking` meets its contract: the code's tests in their order are those of the
+-- definition. Assumes nothing.
 use borrow.Author.Needs.{needs}
-use mathlib.Core.Path.{sym, _∙_, subst}
-use borrow.Author.Tests.{lt-ltb, le-ltb}
+use mathlib.Core.Path.{sym, _∙_}
+use borrow.Author.Tests.{lt-ltb}
 use Rattle.steps.specs.Limits.{belowLimitBlocking}
+use Rattle.transition.proofs.Blocking.{by-fractions}
 use Rattle.transition.proofs.limits.below_limit_blocking.Statement.{statement}
 use Rattle.transition.proofs.limits.below_limit_blocking.Tie as tie
 
@@ -34,15 +36,16 @@ blocking-reached-requires : tie.Need-blocking-reached-requires
 blocking-reached-requires c κs = search needs
 
 returns-3 : tie.Need-returns-3
-unfolding belowLimitBlocking
 returns-3 c =
     let at-if2 = c .before .before .before in
     let at-with-ongoing = at-if2 .before .before in
     let at-if1 = at-with-ongoing .before in
     let at-replaces-blocking = at-if1 .before in
+    let at-args = at-replaces-blocking .before in
     rw (
-      sym (at-replaces-blocking .replaces-blocking .ensures) ∙ at-if1 .if1 .left,
-      le-ltb _ _ (rw (at-with-ongoing .with-ongoing .ensures) at (at-if2 .if2 .left)),
+      by-fractions (at-args .args .c) (at-args .args .r) (at-args .args .replace)
+          (sym (at-replaces-blocking .replaces-blocking .ensures) ∙ at-if1 .if1 .left)
+          (rw (at-with-ongoing .with-ongoing .ensures) at (at-if2 .if2 .left)),
       rw (
         at-with-ongoing .with-ongoing .ensures,
         c .before .before .saturating-duration-since .ensures,
@@ -60,7 +63,6 @@ blocking-reached-requires-2 : tie.Need-blocking-reached-requires-2
 blocking-reached-requires-2 c κs = search needs
 
 returns-4 : tie.Need-returns-4
-unfolding belowLimitBlocking
 returns-4 c =
     let at-with-ongoing2 = c .before .before .before in
     let at-if3 = at-with-ongoing2 .before in
@@ -70,9 +72,11 @@ returns-4 c =
     let at-with-ongoing = at-if2 .before .before in
     let at-if1 = at-with-ongoing .before in
     let at-replaces-blocking = at-if1 .before in
+    let at-args = at-replaces-blocking .before in
     rw (
-      sym (at-replaces-blocking .replaces-blocking .ensures) ∙ at-if1 .if1 .left,
-      le-ltb _ _ (rw (at-with-ongoing .with-ongoing .ensures) at (at-if2 .if2 .left)),
+      by-fractions (at-args .args .c) (at-args .args .r) (at-args .args .replace)
+          (sym (at-replaces-blocking .replaces-blocking .ensures) ∙ at-if1 .if1 .left)
+          (rw (at-with-ongoing .with-ongoing .ensures) at (at-if2 .if2 .left)),
       rw (
         at-with-ongoing .with-ongoing .ensures,
         at-saturating-duration-since .saturating-duration-since .ensures,
@@ -86,7 +90,6 @@ returns-4 c =
     )
 
 returns-5 : tie.Need-returns-5
-unfolding belowLimitBlocking
 returns-5 c =
     let at-saturating-duration-since2 = c .before .before .before in
     let at-with-ongoing2 = at-saturating-duration-since2 .before in
@@ -97,9 +100,11 @@ returns-5 c =
     let at-with-ongoing = at-if2 .before .before in
     let at-if1 = at-with-ongoing .before in
     let at-replaces-blocking = at-if1 .before in
+    let at-args = at-replaces-blocking .before in
     rw (
-      sym (at-replaces-blocking .replaces-blocking .ensures) ∙ at-if1 .if1 .left,
-      le-ltb _ _ (rw (at-with-ongoing .with-ongoing .ensures) at (at-if2 .if2 .left)),
+      by-fractions (at-args .args .c) (at-args .args .r) (at-args .args .replace)
+          (sym (at-replaces-blocking .replaces-blocking .ensures) ∙ at-if1 .if1 .left)
+          (rw (at-with-ongoing .with-ongoing .ensures) at (at-if2 .if2 .left)),
       rw (
         at-with-ongoing .with-ongoing .ensures,
         at-saturating-duration-since .saturating-duration-since .ensures,

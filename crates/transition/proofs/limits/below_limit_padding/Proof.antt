@@ -1,4 +1,5 @@
--- `below_limit_padding` meets its contract: the machine's fraction over what the framework's leaves. Assumes nothing.
+-- `below_limit_padding` meets its contract: the machine's fraction over what the framework's
+-- leaves. Assumes nothing.
 use borrow.Author.Needs.{needs}
 use borrow.Author.Tests.{lt-ltb, le-ltb}
 use Rattle.steps.specs.Limits.{belowLimitPadding}

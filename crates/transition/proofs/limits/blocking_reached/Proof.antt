@@ -1,4 +1,5 @@
--- `blocking_reached` meets its contract: the code's test is that of the definition. Assumes nothing.
+-- `blocking_reached` meets its contract: the code's test is that of the definition. Assumes
+-- nothing.
 use borrow.Author.Needs.{needs}
 use Rattle.transition.proofs.limits.blocking_reached.Statement.{statement}
 use Rattle.transition.proofs.limits.blocking_reached.Tie as tie

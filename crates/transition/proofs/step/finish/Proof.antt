@@ -1,9 +1,10 @@
--- `finish` meets its contract, by whether an action is scheduled and by what was drawn. Assumes nothing.
+-- `finish` meets its contract, by whether an action is scheduled and by what was drawn. Assumes
+-- nothing.
 use borrow.Author.Needs.{needs}
 use mathlib.Core.Path.{sym, _∙_}
 use Rattle.steps.specs.Transition.{finish}
-use Rattle.transition.proofs.finish.Statement.{statement}
-use Rattle.transition.proofs.finish.Tie as tie
+use Rattle.transition.proofs.step.finish.Statement.{statement}
+use Rattle.transition.proofs.step.finish.Tie as tie
 
 has-changed-requires : tie.Need-has-changed-requires
 has-changed-requires c κs = search needs

@@ -1,7 +1,7 @@
 -- `after_zero` meets its contract, by whether the step was refused. Assumes nothing.
 use borrow.Author.Needs.{needs}
-use Rattle.transition.proofs.after_zero.Statement.{statement}
-use Rattle.transition.proofs.after_zero.Tie as tie
+use Rattle.transition.proofs.step.after_zero.Statement.{statement}
+use Rattle.transition.proofs.step.after_zero.Tie as tie
 
 enum-known-stepped : tie.Need-enum-known-stepped
 enum-known-stepped c = search needs

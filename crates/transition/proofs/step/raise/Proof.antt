@@ -2,8 +2,8 @@
 use borrow.Author.Needs.{needs}
 use borrow.Author.Tests.{eq-eqb, ne-eqb}
 use Rattle.steps.specs.Transition.{raise}
-use Rattle.transition.proofs.raise.Statement.{statement}
-use Rattle.transition.proofs.raise.Tie as tie
+use Rattle.transition.proofs.step.raise.Statement.{statement}
+use Rattle.transition.proofs.step.raise.Tie as tie
 
 add-result : tie.Need-add-result
 add-result c = search needs

@@ -1,7 +1,7 @@
 -- `has_changed` meets its contract, by the update's own answer. Assumes nothing.
 use borrow.Author.Needs.{needs}
-use Rattle.transition.proofs.has_changed.Statement.{statement}
-use Rattle.transition.proofs.has_changed.Tie as tie
+use Rattle.transition.proofs.step.has_changed.Statement.{statement}
+use Rattle.transition.proofs.step.has_changed.Tie as tie
 
 returns : tie.Need-returns
 returns c = search needs

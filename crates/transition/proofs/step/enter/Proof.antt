@@ -3,8 +3,8 @@ use borrow.Author.Needs.{needs}
 use mathlib.Core.Path.{sym, _∙_}
 use borrow.Author.Tests.{eq-eqb, ne-eqb}
 use Rattle.steps.specs.Transition.{enter}
-use Rattle.transition.proofs.enter.Statement.{statement}
-use Rattle.transition.proofs.enter.Tie as tie
+use Rattle.transition.proofs.step.enter.Statement.{statement}
+use Rattle.transition.proofs.step.enter.Tie as tie
 
 returns : tie.Need-returns
 unfolding enter

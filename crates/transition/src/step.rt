@@ -1,0 +1,156 @@
+// The parts of a step: what a transition makes of its machine before and after its counter update.
+use super::action::schedule_action;
+use machine::action::sample_limit;
+use machine::constants::STATE_END;
+use machine::dist::WholeDrawn;
+use steps::Entered;
+use steps::MachineRuntime;
+use steps::Scheduled;
+use steps::Shared;
+use steps::Step;
+use steps::Stepped;
+use steps::TriggerAction;
+use steps::Update;
+use steps::Updated;
+ghost use mathlib.Core.Path.{_≡_};
+ghost use mathlib.Core.Bool.{true, _&&_, _||_};
+ghost use Prim.Native.Nat.{_<_};
+ghost use Rattle.machine.specs.Constants.{stateEnd};
+ghost use Rattle.steps.specs.Transition as Spec;
+
+// ---- two tests
+
+pub fn either(a: bool, b: bool) -> bool
+    ensures { λ x. ⌜ x ≡ (a || b) ⌝ }
+{
+    if a {
+        return true;
+    }
+    b
+}
+
+pub fn both(a: bool, b: bool) -> bool
+    ensures { λ x. ⌜ x ≡ (a && b) ⌝ }
+{
+    if a {
+        return b;
+    }
+    false
+}
+
+// ---- answers
+
+pub fn done(r: MachineRuntime, s: Shared, p: TriggerAction, changed: bool) -> Stepped
+    ensures { λ x. ⌜ x ≡ Spec.done r s p changed ⌝ }
+{
+    Stepped::Done(Step {
+        runtime: r,
+        shared: s,
+        action: p,
+        changed: changed,
+    })
+}
+
+// A machine that ends keeps its limit and its pending action; that is a change.
+pub fn ended(r: MachineRuntime, s: Shared, p: TriggerAction) -> Stepped
+    ensures { λ x. ⌜ x ≡ Spec.done (Spec.withState r stateEnd (r .«state_limit»)) s p true ⌝ }
+{
+    let mut q = r;
+    q.current_state = STATE_END;
+    done(q, s, p, true)
+}
+
+// ---- a signal, and a state that is entered
+
+// A raised signal leaves out its sender, unless one was raised before.
+pub fn raise(pending: u64, machine: u64) -> u64
+    requires { ⌜ machine < 16 ⌝ }
+    ensures { λ x. ⌜ x ≡ Spec.raise pending machine ⌝ }
+{
+    if pending == 0 { 2 + machine } else { 1 }
+}
+
+// Entering another state draws its limit; the same one keeps what is left of it.
+pub fn enter(row: &[u64], values: &[f64], r: MachineRuntime, state: u64, at: usize) -> Entered
+    ensures { λ x. ⌜ x ≡ Spec.enter (now (row .entry)) (now (values .entry)) r state at ⌝ }
+{
+    if r.current_state == state {
+        return Entered::In(r, at);
+    }
+    let limit = sample_limit(row, values, at);
+    match limit {
+        WholeDrawn::NoWhole(n) => Entered::Barred(n),
+        WholeDrawn::GotWhole(w) => {
+            let mut q = r;
+            q.current_state = state;
+            q.state_limit = w.value;
+            Entered::In(q, w.at)
+        }
+    }
+}
+
+// ---- after the counters
+
+// Out of a state and back is a change.
+pub fn has_changed(before: u64, u: Update) -> bool
+    ensures { λ x. ⌜ x ≡ Spec.hasChanged before u ⌝ }
+{
+    if u.state_changed {
+        return true;
+    }
+    let r = u.runtime;
+    before != r.current_state
+}
+
+// The action is scheduled where the limits were not reached before the counter update, and where a
+// CounterZero left the machine none.
+pub fn finish(row: &[u64], values: &[f64], before: u64, below: bool, u: Update) -> Stepped
+    ensures { λ x. ⌜ x ≡ Spec.finish (now (row .entry)) (now (values .entry)) before below u ⌝ }
+{
+    let changed = has_changed(before, u);
+    let r = u.runtime;
+    let s = u.shared;
+    let p = u.action;
+    if both(u.allow_schedule, below) {
+        let scheduled = schedule_action(row, values, s.value_at);
+        match scheduled {
+            Scheduled::Unset(n) => return Stepped::Refused(n),
+            Scheduled::Set(set, at) => {
+                let mut t = s;
+                t.value_at = at;
+                return done(r, t, set, changed);
+            }
+        }
+    }
+    done(r, s, p, changed)
+}
+
+pub fn finished(row: &[u64], values: &[f64], before: u64, below: bool, updated: Updated) -> Stepped
+    ensures { λ x. ⌜ x ≡ Spec.finished (now (row .entry)) (now (values .entry)) before below updated ⌝ }
+{
+    match updated {
+        Updated::Halted(n) => Stepped::Refused(n),
+        Updated::Counters(u) => finish(row, values, before, below, u),
+    }
+}
+
+// After a CounterZero the outer action is scheduled only where the machine has none.
+pub fn after_zero(stepped: Stepped) -> Updated
+    ensures { λ x. ⌜ x ≡ Spec.afterZero stepped ⌝ }
+{
+    match stepped {
+        Stepped::Refused(n) => Updated::Halted(n),
+        Stepped::Done(d) => {
+            let r = d.runtime;
+            let s = d.shared;
+            let p = d.action;
+            Updated::Counters(Update {
+                runtime: r,
+                shared: s,
+                action: p,
+                allow_schedule: p.kind == 0,
+                state_changed: d.changed,
+            })
+        }
+    }
+}
