@@ -28,26 +28,42 @@ mul-if4 c = search needs
 returns-2 : tie.Need-returns-2
 unfolding batchRefusal
 returns-2 c =
+    let fits-tables = c .before .before .before .before .fits-tables in
+    let if1 = c .before .before .before .before .before .if1 in
+    let check-tables = c .before .before .before .before .before .before .check-tables in
+    let c₁ = c .before .before .before .before .before .before .before .before in
+    let args = c₁ .before .before .before .args in
     λ out e.
-    rw (then-is _ _ (sym (c .before .before .before .before .before .before .check-tables .ensures) ∙ c .before .before .before .before .before .if1 .left), sym (c .before .before .before .before .fits-tables .ensures (c .before .before .before .before .before .before .before .before .before .before .before .args .states .now) (c .before .before .before .before .before .before .before .before .before .before .before .args .transitions .now)) ∙ c .before .before .before .if2 .taken, sym (c .before .before .events-fit .ensures) ∙ c .before .if3 .taken, e, lt-ltb _ _ (c .if4 .taken)) refl
+    rw (then-is _ _ (sym (check-tables .ensures) ∙ if1 .left), sym (fits-tables .ensures (args .states .now) (args .transitions .now)) ∙ c .before .before .before .if2 .taken, sym (c .before .before .events-fit .ensures) ∙ c .before .if3 .taken, e, lt-ltb _ _ (c .if4 .taken)) refl
 
 returns-3 : tie.Need-returns-3
 unfolding batchRefusal
 returns-3 c =
+    let fits-tables = c .before .before .before .before .fits-tables in
+    let if1 = c .before .before .before .before .before .if1 in
+    let check-tables = c .before .before .before .before .before .before .check-tables in
+    let c₁ = c .before .before .before .before .before .before .before .before in
+    let args = c₁ .before .before .before .args in
     λ out e.
-    rw (then-is _ _ (sym (c .before .before .before .before .before .before .check-tables .ensures) ∙ c .before .before .before .before .before .if1 .left), sym (c .before .before .before .before .fits-tables .ensures (c .before .before .before .before .before .before .before .before .before .before .before .args .states .now) (c .before .before .before .before .before .before .before .before .before .before .before .args .transitions .now)) ∙ c .before .before .before .if2 .taken, sym (c .before .before .events-fit .ensures) ∙ c .before .if3 .taken, e, le-ltb _ _ (c .if4 .left)) refl
+    rw (then-is _ _ (sym (check-tables .ensures) ∙ if1 .left), sym (fits-tables .ensures (args .states .now) (args .transitions .now)) ∙ c .before .before .before .if2 .taken, sym (c .before .before .events-fit .ensures) ∙ c .before .if3 .taken, e, le-ltb _ _ (c .if4 .left)) refl
 
 returns-4 : tie.Need-returns-4
 unfolding batchRefusal
 returns-4 c =
+    let if1 = c .before .before .before .before .if1 in
+    let check-tables = c .before .before .before .before .before .check-tables in
+    let c₁ = c .before .before .before .before .before .before .before .before in
+    let args = c₁ .before .before .args in
     λ out e.
-    rw (then-is _ _ (sym (c .before .before .before .before .before .check-tables .ensures) ∙ c .before .before .before .before .if1 .left), sym (c .before .before .before .fits-tables .ensures (c .before .before .before .before .before .before .before .before .before .before .args .states .now) (c .before .before .before .before .before .before .before .before .before .before .args .transitions .now)) ∙ c .before .before .if2 .taken, sym (c .before .events-fit .ensures) ∙ c .if3 .left) refl
+    rw (then-is _ _ (sym (check-tables .ensures) ∙ if1 .left), sym (c .before .before .before .fits-tables .ensures (args .states .now) (args .transitions .now)) ∙ c .before .before .if2 .taken, sym (c .before .events-fit .ensures) ∙ c .if3 .left) refl
 
 returns-5 : tie.Need-returns-5
 unfolding batchRefusal
 returns-5 c =
+    let c₁ = c .before .before .before .before .before .before .before .before in
+    let args = c₁ .args in
     λ out e.
-    rw (then-is _ _ (sym (c .before .before .before .check-tables .ensures) ∙ c .before .before .if1 .left), sym (c .before .fits-tables .ensures (c .before .before .before .before .before .before .before .before .args .states .now) (c .before .before .before .before .before .before .before .before .args .transitions .now)) ∙ c .if2 .left) refl
+    rw (then-is _ _ (sym (c .before .before .before .check-tables .ensures) ∙ c .before .before .if1 .left), sym (c .before .fits-tables .ensures (args .states .now) (args .transitions .now)) ∙ c .if2 .left) refl
 
 pub batch-refusal-spec : {M : Type 1} → statement M
 batch-refusal-spec =

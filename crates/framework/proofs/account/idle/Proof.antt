@@ -22,12 +22,14 @@ event-of-requires c κs = search needs
 
 count-of-requires : tie.Need-count-of-requires
 count-of-requires c κs =
-    rw (c .event-of .ensures) (event-small _ (c .before .before .before .before .before .pre))
+    let pre = c .before .before .before .before .before .pre in
+    rw (c .event-of .ensures) (event-small _ (pre))
 
 returns-3 : tie.Need-returns-3
 unfolding idleAt
 returns-3 c =
-    rw (c .before .before .before .before .if1 .left, ne-eqb _ _ (c .before .before .before .if2 .left), c .count-of .ensures, c .before .before .state-row .ensures, c .before .event-of .ensures)
+    let if1 = c .before .before .before .before .if1 in
+    rw (if1 .left, ne-eqb _ _ (c .before .before .before .if2 .left), c .count-of .ensures, c .before .before .state-row .ensures, c .before .event-of .ensures)
 
 pub idle-spec : {M : Type 1} → statement M
 idle-spec =

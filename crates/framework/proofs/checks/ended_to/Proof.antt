@@ -40,7 +40,9 @@ element-copy-out-r c = search needs
 
 returns : tie.Need-returns Inv-loop μ-loop
 returns c =
-    sym (fails (c .before .before .before .before .before .args .t1) (c .before .before .before .before .loop .m) (c .before .before .before .before .before .args .count) (c .before .before .before .loop-test .taken) (c .before .before .before .before .loop .inv .1) (c .if1 .taken))
+    let loop = c .before .before .before .before .loop in
+    let args = c .before .before .before .before .before .args in
+    sym (fails (args .t1) (loop .m) (args .count) (c .before .before .before .loop-test .taken) (loop .inv .1) (c .if1 .taken))
 
 add-m : tie.Need-add-m Inv-loop μ-loop
 add-m c = search needs
@@ -50,7 +52,9 @@ loop-less c = search needs
 
 loop-again : tie.Need-loop-again Inv-loop μ-loop
 loop-again c =
-    (omega (arith, c .before .before .before .loop-test .taken), more (c .before .before .before .before .before .args .t1) (c .before .before .before .before .loop .m) (c .before .before .before .before .loop .inv .1) (c .if1 .left))
+    let loop = c .before .before .before .before .loop in
+    let args = c .before .before .before .before .before .args in
+    (omega (arith, c .before .before .before .loop-test .taken), more (args .t1) (loop .m) (loop .inv .1) (c .if1 .left))
 
 returns-2 : tie.Need-returns-2 Inv-loop μ-loop
 returns-2 c =

@@ -49,7 +49,10 @@ shared-slice-read-if2 c = search needs
 returns-2 : tie.Need-returns-2 Inv-loop μ-loop
 unfolding eventsFit
 returns-2 c =
-    rw (eq-eqb _ _ (c .before .before .before .before .if1 .left)) (sym (fails (c .before .before .before .before .before .args .events .now) (c .before .before .before .loop .i) _ (c .before .before .loop-test .taken) (c .before .before .before .loop .inv .1) (lt-leb _ _ (c .if2 .taken))))
+    let loop = c .before .before .before .loop in
+    let if1 = c .before .before .before .before .if1 in
+    let args = c .before .before .before .before .before .args in
+    rw (eq-eqb _ _ (if1 .left)) (sym (fails (args .events .now) (loop .i) _ (c .before .before .loop-test .taken) (loop .inv .1) (lt-leb _ _ (c .if2 .taken))))
 
 add-i : tie.Need-add-i Inv-loop μ-loop
 add-i c = omega (arith, c .before .before .loop-test .taken)
@@ -59,7 +62,9 @@ loop-less c = search needs
 
 loop-again : tie.Need-loop-again Inv-loop μ-loop
 loop-again c =
-    (omega (arith, c .before .before .loop-test .taken), more (c .before .before .before .before .before .args .events .now) (c .before .before .before .loop .i) (c .before .before .before .loop .inv .1) (le-leb _ _ (c .if2 .left)))
+    let loop = c .before .before .before .loop in
+    let args = c .before .before .before .before .before .args in
+    (omega (arith, c .before .before .loop-test .taken), more (args .events .now) (loop .i) (loop .inv .1) (le-leb _ _ (c .if2 .left)))
 
 returns-3 : tie.Need-returns-3 Inv-loop μ-loop
 unfolding eventsFit

@@ -64,15 +64,21 @@ loop-less : tie.Need-loop-less Inv-loop μ-loop
 loop-less c = search needs
 
 loop-again : tie.Need-loop-again Inv-loop μ-loop
-loop-again c = (
-  omega (arith, c .before .before .before .before .loop-test .taken),
-  λ states transitions. more (tables (c .before .before .before .before .before .before .before .args .machines .now) states transitions) (c .before .before .before .before .before .before .before .args .t1) (c .before .before .before .before .before .loop .m) (c .before .before .before .before .before .loop .inv .1 states transitions)
-      (sym (rw (c .before .before .word .ensures) at (c .before .state-fits .ensures)) ∙ c .if1 .taken),
-)
+loop-again c =
+    let loop-test = c .before .before .before .before .loop-test in
+    let loop = c .before .before .before .before .before .loop in
+    let args = c .before .before .before .before .before .before .before .args in (
+      omega (arith, loop-test .taken),
+      λ states transitions. more (tables (args .machines .now) states transitions) (args .t1) (loop .m) (loop .inv .1 states transitions)
+          (sym (rw (c .before .before .word .ensures) at (c .before .state-fits .ensures)) ∙ c .if1 .taken),
+    )
 
 returns : tie.Need-returns Inv-loop μ-loop
 returns c =
-    λ states transitions. sym (fails (tables (c .before .before .before .before .before .before .before .args .machines .now) states transitions) (c .before .before .before .before .before .before .before .args .t1) (c .before .before .before .before .before .loop .m) (c .before .before .before .before .before .before .before .args .count) (c .before .before .before .before .loop-test .taken) (c .before .before .before .before .before .loop .inv .1 states transitions)
+    let loop-test = c .before .before .before .before .loop-test in
+    let loop = c .before .before .before .before .before .loop in
+    let args = c .before .before .before .before .before .before .before .args in
+    λ states transitions. sym (fails (tables (args .machines .now) states transitions) (args .t1) (loop .m) (args .count) (loop-test .taken) (loop .inv .1 states transitions)
     (sym (rw (c .before .before .word .ensures) at (c .before .state-fits .ensures)) ∙ c .if1 .left))
 
 returns-2 : tie.Need-returns-2 Inv-loop μ-loop
