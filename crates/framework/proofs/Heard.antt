@@ -11,7 +11,8 @@ use lib.ListN.{getD, set}
 use borrow.Author.Tests.{eq-eqb, ne-eqb, eqb-true, leb-true, ltb-true}
 use Rattle.machine.specs.Event.{signal}
 use Rattle.steps.specs.Transition.{noAction, withSignal, left, unspent, transition}
-use Rattle.steps.specs.Events.{Tables, Tapes, Run, Outcome, stop, go, andThen, each, numMachines, runtimeAt, withRuntime, envOf, signalMachine, signalTurn, lastSignal, signals}
+use Rattle.steps.specs.Events.{Tables, Tapes, Run, Outcome, stop, go, andThen, each, numMachines, runtimeAt, withRuntime}
+use Rattle.steps.specs.Events.{envOf, signalMachine, signalTurn, lastSignal, signals}
 use Rattle.steps.specs.declared.Framework.{Framework}
 use Rattle.steps.specs.declared.Shared.{Shared}
 use Rattle.steps.specs.declared.Step.{Step}
@@ -32,7 +33,8 @@ two-left s = few (s .«counter_a_zeroed») (s .«counter_b_zeroed») where
   few false false = omega arith
 
 -- a signal that leaves out a known machine
-pub known-is : (signal count : ℕ) → (leb 2 signal && ltb signal (2 + count)) ≡ true → (2 ≤ signal) × (signal < 2 + count)
+pub known-is : (signal count : ℕ) → (leb 2 signal && ltb signal (2 + count)) ≡ true →
+    (2 ≤ signal) × (signal < 2 + count)
 known-is signal count e =
     ⊎-elim
     (λ a. (leb-true 2 signal a, ltb-true signal (2 + count) (rw a at e)))
@@ -48,7 +50,7 @@ then-same (go x) f g h = h x
 abbrev after : Tables → Tapes → ℕ → Run → Outcome
 after T D taken y = cond (eqb taken 0) (go y) (lastSignal T D taken y)
 
--- What is ahead of a round whose outcome is o: the machines from m to `end` are still to hear the signal that was taken.
+-- What is ahead of a round whose outcome is o: the machines from m to `end` are still to hear the signal taken.
 pub record Heard
     (o : Outcome) (T : Tables) (D : Tapes) (taken m end : ℕ)
     (fw : Framework) (actions : List TriggerAction) (s : Shared) : Type 0 where
@@ -77,7 +79,8 @@ heard-all T D fw actions s h = record {
 abbrev signalled : Tables → Tapes → ℕ → Framework → List TriggerAction → Shared → Stepped
 signalled T D m fw actions s = transition (envOf T D fw m) signal (runtimeAt fw m) s (getD actions m noAction)
 
-module _ {o : Outcome} {T : Tables} {D : Tapes} {taken m end : ℕ} {fw : Framework} {actions : List TriggerAction} {s : Shared}
+module _ {o : Outcome} {T : Tables} {D : Tapes} {taken m end : ℕ}
+    {fw : Framework} {actions : List TriggerAction} {s : Shared}
     (a : Heard o T D taken m end fw actions s) where
   module _ (h : m < end) where
     pub heard-skip : taken ≡ m + 2 → Heard o T D taken (m + 1) end fw actions s
@@ -116,7 +119,8 @@ module _ {o : Outcome} {T : Tables} {D : Tapes} {taken m end : ℕ} {fw : Framew
 
     module _ (raised : s .«signal_pending» ≡ 0 → ⊥) (more : taken ≡ 0 → ⊥) where
       -- with no known machine left out, it is dropped
-      pub heard-dropped : (leb 2 taken && ltb taken (2 + numMachines fw)) ≡ false → o ≡ go (run fw actions (withSignal s 0))
+      pub heard-dropped : (leb 2 taken && ltb taken (2 + numMachines fw)) ≡ false →
+          o ≡ go (run fw actions (withSignal s 0))
       heard-dropped e = a .is ∙ rw (ends, ne-eqb _ _ more, ne-eqb _ _ raised, e)
 
       -- else that machine hears it

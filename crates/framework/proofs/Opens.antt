@@ -24,12 +24,14 @@ opens fw at = run fw noActions (withValueAt (sharedFrom 0) at)
 pub record Opens (o : Outcome) (T : Tables) (values : List Float) (n m : ℕ) (fw : Framework) (at : ℕ) : Type 0 where
   pub is : o ≡ each (openTurn T values) (n - m) m (opens fw at)
 
-module _ {o : Outcome} {T : Tables} {values : List Float} {n m : ℕ} {fw : Framework} {at : ℕ} (a : Opens o T values n m fw at) where
+module _ {o : Outcome} {T : Tables} {values : List Float} {n m : ℕ} {fw : Framework} {at : ℕ}
+    (a : Opens o T values n m fw at) where
   pub opens-end : n ≤ m → o ≡ go (opens fw at)
   opens-end h = a .is ∙ each-end (openTurn T values) n m (opens fw at) h
 
   module _ (h : m < n) where
-    pub opens-on : {w : Whole} → startLimit (stateRow (statesOf T m) 0) values at ≡ GotWhole w → {r : MachineRuntime} →
+    pub opens-on : {w : Whole} → startLimit (stateRow (statesOf T m) 0) values at ≡ GotWhole w →
+        {r : MachineRuntime} →
         r ≡ newRuntime (fw .«current_time») (machineWord (T .machines) m allowedBlockedMicrosec) (w .value) →
         Opens o T values n (m + 1) (withRuntime fw (set (fw .runtime) m r)) (w .at)
     unfolding openTurn

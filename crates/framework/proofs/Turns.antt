@@ -1,4 +1,4 @@
--- The run over events, a turn at a time: of the event taken some machines are left, and after them the events that follow.
+-- The run over events, a turn at a time: of the event taken some machines are left, then the events that follow.
 use Prim.Native.Nat.{ℕ, zero, suc, _+_, _-_, _≤_, _<_}
 use mathlib.Core.Path.{_≡_, refl, sym, ap, _∙_}
 use mathlib.Core.List.{List}
@@ -13,7 +13,8 @@ use Rattle.machine.specs.Constants.{stateEnd}
 use Rattle.machine.specs.Event.{eventOf, normalSent, paddingSent, blockingEnd}
 use Rattle.machine.specs.State.{stateRow, countOf}
 use Rattle.steps.specs.Transition.{Env, noAction, done, transition, transitionBy}
-use Rattle.steps.specs.Events.{Tables, Tapes, Run, Outcome, stop, go, andThen, each, numMachines, runtimeAt, withRuntime, statesOf, envOf, countedBy, limitFalls, turn, machineTurn, firstFor, turnsFor, processEvent, kindAt, machineAt, eventTurn, blockedFor}
+use Rattle.steps.specs.Events.{Tables, Tapes, Run, Outcome, stop, go, andThen, each, numMachines, runtimeAt, withRuntime, statesOf}
+use Rattle.steps.specs.Events.{envOf, countedBy, limitFalls, turn, machineTurn, firstFor, turnsFor, processEvent, kindAt, machineAt, eventTurn, blockedFor}
 use Rattle.steps.specs.declared.Framework.{Framework}
 use Rattle.steps.specs.declared.MachineRuntime.{MachineRuntime}
 use Rattle.steps.specs.declared.Shared.{Shared}
@@ -37,7 +38,8 @@ module _ (f : ℕ → Run → Outcome) (n i : ℕ) (x : Run) where
   each-on h = let one : n - i ≡ suc (n - (i + 1)) = omega arith in rw one
 
 -- counts change no state
-counted-state : (kind blocked : ℕ) (r : MachineRuntime) → countedBy kind blocked r .«current_state» ≡ r .«current_state»
+counted-state : (kind blocked : ℕ) (r : MachineRuntime) →
+    countedBy kind blocked r .«current_state» ≡ r .«current_state»
 unfolding countedBy
 counted-state kind blocked r =
     ⊎-elim
@@ -54,7 +56,8 @@ counted-state kind blocked r =
     (bool-cases (eqb kind normalSent))
 
 module _ (E : Env) (kind blocked : ℕ) (r : MachineRuntime) (s : Shared) (p : TriggerAction) where
-  still : (eqb (r .«current_state») stateEnd || eqb (countOf (stateRow (E .rows) (r .«current_state»)) (eventOf kind)) 0) ≡ true →
+  still :
+      (eqb (r .«current_state») stateEnd || eqb (countOf (stateRow (E .rows) (r .«current_state»)) (eventOf kind)) 0) ≡ true →
       transition E (eventOf kind) (countedBy kind blocked r) s p ≡ done (countedBy kind blocked r) s p false
   unfolding transitionBy
   still e =
@@ -73,7 +76,8 @@ module _ (E : Env) (kind blocked : ℕ) (r : MachineRuntime) (s : Shared) (p : T
   idle-turn true e = absurd (false≢true e)
   idle-turn false e = rw (still e)
 
--- What is ahead of a run whose outcome is o: the machines from m to `end` of the event taken last, then the events from i on.
+-- What is ahead of a run whose outcome is o: the machines from m to `end` of the event taken last, then the events
+-- from i on.
 pub record Ahead
     (o : Outcome) (T : Tables) (D : Tapes) (es : List ℕ) (n kind machine blocked m end i : ℕ)
     (fw : Framework) (actions : List TriggerAction) (s : Shared) : Type 0 where
@@ -81,7 +85,8 @@ pub record Ahead
       (each (machineTurn T D kind machine blocked) (end - m) m (run fw actions s))
       (each (eventTurn T D es) (n - i) i)
 
-pub all-ahead : (T : Tables) (D : Tapes) (es : List ℕ) (n : ℕ) (fw : Framework) (actions : List TriggerAction) (s : Shared) →
+pub all-ahead :
+    (T : Tables) (D : Tapes) (es : List ℕ) (n : ℕ) (fw : Framework) (actions : List TriggerAction) (s : Shared) →
     Ahead (each (eventTurn T D es) n 0 (run fw actions s)) T D es n 0 0 0 0 0 0 fw actions s
 unfolding each
 all-ahead T D es n fw actions s = record { is = rw sub-zero }

@@ -18,16 +18,19 @@ refused-requires c κs = search needs
 returns : tie.Need-returns
 unfolding batch
 returns c =
+    let if1 = c .before .if1 in
+    let batch-refusal = c .before .before .batch-refusal in
     let c₁ = c .before .before .before .before .before .before .before .before in
     let args = c₁ .before .before .args in
-    let is = (c .before .before .batch-refusal .ensures (args .out .now) refl) in
-    rw (ne-eqb _ _ (λ z. c .before .if1 .taken (is ∙ z))) (rw is at (c .refused .ensures (args .out .now)), refl)
+    let is = (batch-refusal .ensures (args .out .now) refl) in
+    rw (ne-eqb _ _ (λ z. if1 .taken (is ∙ z))) (rw is at (c .refused .ensures (args .out .now)), refl)
 
 trigger-events-requires : tie.Need-trigger-events-requires
 trigger-events-requires c κs =
+    let batch-refusal = c .before .batch-refusal in
     let c₁ = c .before .before .before .before .before .before .before .before in
     let args = c₁ .before .args in
-    batch-passes _ _ _ _ (sym (c .before .batch-refusal .ensures (args .out .now) refl) ∙ c .if1 .left) .0
+    batch-passes _ _ _ _ (sym (batch-refusal .ensures (args .out .now) refl) ∙ c .if1 .left) .0
 
 enum-known-verdict : tie.Need-enum-known-verdict
 enum-known-verdict c = search needs
@@ -40,15 +43,18 @@ enum-told c = search needs
 
 accepted-requires : tie.Need-accepted-requires
 accepted-requires c κs =
+    let trigger-events = c .before .before .before .trigger-events in
     let if1 = c .before .before .before .before .if1 in
     let batch-refusal = c .before .before .before .before .before .batch-refusal in
     let c₁ = c .before .before .before .before .before .before .before .before in
     let args = c₁ .before .before .before .before .before .args in
-    rw (c .before .before .before .trigger-events .ensures .1) (batch-passes _ _ _ _ (sym (batch-refusal .ensures (args .out .now) refl) ∙ if1 .left) .1)
+    let none = sym (batch-refusal .ensures (args .out .now) refl) ∙ if1 .left in
+    rw (trigger-events .ensures .1) (batch-passes _ _ _ _ none .1)
 
 returns-2 : tie.Need-returns-2
 unfolding batch
 returns-2 c =
+    let verdict = c .before .before .verdict in
     let trigger-events = c .before .before .before .before .trigger-events in
     let if1 = c .before .before .before .before .before .if1 in
     let batch-refusal = c .before .before .before .before .before .before .batch-refusal in
@@ -58,8 +64,9 @@ returns-2 c =
     let D = tapes (args .chances .now) (args .values .now) in
     let es = args .events .now in
     let stops = stopped-is (entered (args .fw)) (triggerEvents T D (args .time) es (args .fw)) _ _
-    (trigger-events .ensures .0) (c .before .before .verdict .given .1) in
-    rw (eq-eqb _ _ (sym (batch-refusal .ensures (args .out .now) refl) ∙ if1 .left), stops) (c .refused2 .ensures (args .out .now), refl)
+    (trigger-events .ensures .0) (verdict .given .1) in
+    let none = sym (batch-refusal .ensures (args .out .now) refl) ∙ if1 .left in
+    rw (eq-eqb _ _ none, stops) (c .refused2 .ensures (args .out .now), refl)
 
 same-length : tie.Need-same-length
 same-length c = search needs
@@ -67,6 +74,7 @@ same-length c = search needs
 returns-3 : tie.Need-returns-3
 unfolding batch
 returns-3 c =
+    let accepted = c .before .before .accepted in
     let enum-told = c .before .before .before .before .enum-told in
     let trigger-events = c .before .before .before .before .before .before .trigger-events in
     let if1 = c .before .before .before .before .before .before .before .if1 in
@@ -79,7 +87,8 @@ returns-3 c =
     let es = args .events .now in
     let ends = complete-is (entered (args .fw)) (triggerEvents T D (args .time) es (args .fw)) _
     (trigger-events .ensures .0) (enum-told .given .1) in
-    rw (eq-eqb _ _ (sym (batch-refusal .ensures (args .out .now) refl) ∙ if1 .left), ends) (c .before .before .accepted .ensures)
+    let none = sym (batch-refusal .ensures (args .out .now) refl) ∙ if1 .left in
+    rw (eq-eqb _ _ none, ends) (accepted .ensures)
 
 pub batch-spec : {M : Type 1} → statement M
 batch-spec =

@@ -1,5 +1,5 @@
--- `trigger_events` meets its contract: a stop among the events is a stop of the whole, and with no signal pending they are all
--- of it.
+-- `trigger_events` meets its contract: a stop among the events is a stop of the whole, and with no signal pending
+-- they are all of it.
 use borrow.Author.Needs.{needs}
 use mathlib.Core.Path.{_≡_, refl, sym, ap, _∙_}
 use borrow.Author.Tests.{eq-eqb}
@@ -28,7 +28,8 @@ returns c =
     let T = tables (args .machines .now) (args .states .now) (args .transitions .now) in
     let D = tapes (args .chances .now) (args .values .now) in
     let es = args .events .now in
-    let stops = stopped-is (entered (args .fw)) (each (eventTurn T D es) (length es / 2) 0 (begin (args .fw) (args .time))) _ _
+    let ran = each (eventTurn T D es) (length es / 2) 0 (begin (args .fw) (args .time)) in
+    let stops = stopped-is (entered (args .fw)) ran _ _
     (run-events .ensures .0) (c .enum-told .given .1) in
     (rw stops (rw stops at (run-events .ensures .0)), run-events .ensures .1)
 
@@ -38,14 +39,16 @@ enum-told-2 c = search needs
 returns-2 : tie.Need-returns-2
 unfolding triggerEvents signals
 returns-2 c =
+    let enum-told2 = c .before .before .before .enum-told2 in
     let run-events = c .before .before .before .before .before .run-events in
     let c₁ = c .before .before .before .before .before .before .before .before in
     let args = c₁ .before .before .before .before .args in
     let T = tables (args .machines .now) (args .states .now) (args .transitions .now) in
     let D = tapes (args .chances .now) (args .values .now) in
     let es = args .events .now in
-    let ends = complete-is (entered (args .fw)) (each (eventTurn T D es) (length es / 2) 0 (begin (args .fw) (args .time))) _
-    (run-events .ensures .0) (c .before .before .before .enum-told2 .given .1) in
+    let ran = each (eventTurn T D es) (length es / 2) 0 (begin (args .fw) (args .time)) in
+    let ends = complete-is (entered (args .fw)) ran _
+    (run-events .ensures .0) (enum-told2 .given .1) in
     (rw (ends, eq-eqb _ _ (c .if1 .taken)) (rw ends at (run-events .ensures .0)), run-events .ensures .1)
 
 run-signals-requires : tie.Need-run-signals-requires
@@ -63,6 +66,7 @@ enum-told-3 c = search needs
 returns-3 : tie.Need-returns-3
 unfolding triggerEvents
 returns-3 c =
+    let last = c .before .before .last in
     let run-signals = c .before .before .before .before .run-signals in
     let c₁ = c .before .before .before .before .before .before .before .before in
     let enum-told2 = c₁ .before .before .enum-told2 in
@@ -72,10 +76,11 @@ returns-3 c =
     let T = tables (args .machines .now) (args .states .now) (args .transitions .now) in
     let D = tapes (args .chances .now) (args .values .now) in
     let es = args .events .now in
-    let ends = complete-is (entered (args .fw)) (each (eventTurn T D es) (length es / 2) 0 (begin (args .fw) (args .time))) _
+    let ran = each (eventTurn T D es) (length es / 2) 0 (begin (args .fw) (args .time)) in
+    let ends = complete-is (entered (args .fw)) ran _
     (run-events .ensures .0) (enum-told2 .given .1) in
     let stops = stopped-is (runOf (run-events .result)) (signals T D (runOf (run-events .result))) _ _
-    (run-signals .ensures .0) (c .before .before .last .given .1) in
+    (run-signals .ensures .0) (last .given .1) in
     (rw (ends, stops) (c .stopped .ensures), ap (λ (r : Ran). r .framework .machines) (c .stopped .ensures))
 
 returns-4 : tie.Need-returns-4
@@ -90,7 +95,8 @@ returns-4 c =
     let T = tables (args .machines .now) (args .states .now) (args .transitions .now) in
     let D = tapes (args .chances .now) (args .values .now) in
     let es = args .events .now in
-    let ends = complete-is (entered (args .fw)) (each (eventTurn T D es) (length es / 2) 0 (begin (args .fw) (args .time))) _
+    let ran = each (eventTurn T D es) (length es / 2) 0 (begin (args .fw) (args .time)) in
+    let ends = complete-is (entered (args .fw)) ran _
     (run-events .ensures .0) (enum-told2 .given .1) in
     let done = complete-is (runOf (run-events .result)) (signals T D (runOf (run-events .result))) _
     (run-signals .ensures .0) (c .enum-told3 .given .1) in

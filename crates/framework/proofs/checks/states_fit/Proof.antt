@@ -18,7 +18,9 @@ use Rattle.framework.proofs.checks.states_fit.Tie as tie
 
 module _ (T : Tables) (fw : Framework) where
   abbrev fit : ℕ → Bool
-  fit n = eqb (runtimeAt fw n .«current_state») stateEnd || ltb (runtimeAt fw n .«current_state») (machineWord (T .machines) n numStates)
+  fit n =
+      eqb (runtimeAt fw n .«current_state») stateEnd
+      || ltb (runtimeAt fw n .«current_state») (machineWord (T .machines) n numStates)
 
   more : (m : ℕ) → statesFit T fw m ≡ true → fit m ≡ true → statesFit T fw (m + 1) ≡ true
   unfolding statesFit
@@ -65,25 +67,30 @@ loop-less c = search needs
 
 loop-again : tie.Need-loop-again Inv-loop μ-loop
 loop-again c =
+    let state-fits = c .before .state-fits in
+    let word = c .before .before .word in
     let loop-test = c .before .before .before .before .loop-test in
-    let loop = c .before .before .before .before .before .loop in
-    let args = c .before .before .before .before .before .before .before .args in (
+    let loop = c .before .before .before .before .before .loop in (
       omega (arith, loop-test .taken),
-      λ states transitions. more (tables (args .machines .now) states transitions) (args .t1) (loop .m) (loop .inv .1 states transitions)
-          (sym (rw (c .before .before .word .ensures) at (c .before .state-fits .ensures)) ∙ c .if1 .taken),
+      λ states transitions.
+          more _ _ _ (loop .inv .1 states transitions) (sym (rw (word .ensures) at (state-fits .ensures)) ∙ c .if1 .taken),
     )
 
 returns : tie.Need-returns Inv-loop μ-loop
 returns c =
+    let state-fits = c .before .state-fits in
+    let word = c .before .before .word in
     let loop-test = c .before .before .before .before .loop-test in
     let loop = c .before .before .before .before .before .loop in
-    let args = c .before .before .before .before .before .before .before .args in
-    λ states transitions. sym (fails (tables (args .machines .now) states transitions) (args .t1) (loop .m) (args .count) (loop-test .taken) (loop .inv .1 states transitions)
-    (sym (rw (c .before .before .word .ensures) at (c .before .state-fits .ensures)) ∙ c .if1 .left))
+    λ states transitions.
+    sym (fails _ _ _ _ (loop-test .taken) (loop .inv .1 states transitions)
+    (sym (rw (word .ensures) at (state-fits .ensures)) ∙ c .if1 .left))
 
 returns-2 : tie.Need-returns-2 Inv-loop μ-loop
 returns-2 c =
-    λ states transitions. let e : c .before .loop .m ≡ c .before .before .before .args .count = omega arith in sym (rw e at (c .before .loop .inv .1 states transitions))
+    λ states transitions.
+    let e : c .before .loop .m ≡ c .before .before .before .args .count = omega arith in
+    sym (rw e at (c .before .loop .inv .1 states transitions))
 
 pub states-fit-spec : {M : Type 1} → statement M
 states-fit-spec =

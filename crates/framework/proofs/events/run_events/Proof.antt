@@ -1,5 +1,6 @@
--- `run_events` meets its contract. The loop's invariant: the whole run is what is ahead, namely the machines from m to `end` of the
--- event taken last, then the events from i on. The measure counts 17 for each event left, and the machines left.
+-- `run_events` meets its contract. The loop's invariant: the whole run is what is ahead, namely the machines from m to
+-- `end` of the event taken last, then the events from i on. The measure counts 17 for each event left, and the machines
+-- left.
 use borrow.Author.Needs.{needs}
 use Prim.Native.Nat.{ℕ, _+_, _*_, _-_, _/_, _≤_, _<_}
 use mathlib.Core.Path.{_≡_, refl, sym, ap, _∙_}
@@ -32,28 +33,35 @@ shared-from-requires : tie.Need-shared-from-requires Inv-loop μ-loop
 shared-from-requires c κs = search needs
 
 loop-holds : tie.Need-loop-holds Inv-loop μ-loop
-loop-holds c =
-    (omega arith, omega arith, λ h. omega (arith, h), refl, rw (c .before .no-action .ensures, c .shared-from .ensures) (all-ahead _ _ _ _ _ _ _))
+loop-holds c = (
+  omega arith,
+  omega arith,
+  λ h. omega (arith, h),
+  refl,
+  rw (c .before .no-action .ensures, c .shared-from .ensures) (all-ahead _ _ _ _ _ _ _),
+)
 
 limit-falls-requires : tie.Need-limit-falls-requires Inv-loop μ-loop
 limit-falls-requires c κs = search needs
 
 states-of-requires : tie.Need-states-of-requires Inv-loop μ-loop
 states-of-requires c κs =
-    let below = c .before .before .loop .inv .2 (c .before .if1 .taken) in omega (arith, c .before .if1 .taken)
+    omega (arith, c .before .if1 .taken, c .before .before .loop .inv .2 (c .before .if1 .taken))
 
 mul-r : tie.Need-mul-r Inv-loop μ-loop
 mul-r c =
-    let below = c .before .before .before .loop .inv .2 (c .before .before .if1 .taken) in omega (arith, c .before .before .if1 .taken)
+    let if1 = c .before .before .if1 in
+    let loop = c .before .before .before .loop in
+    omega (arith, if1 .taken, loop .inv .2 (if1 .taken))
 
 element-copy-out-r : tie.Need-element-copy-out-r Inv-loop μ-loop
 element-copy-out-r c =
-    let below = c .before .before .before .loop .inv .2 (c .before .before .if1 .taken) in omega (arith, c .before .before .if1 .taken)
+    let if1 = c .before .before .if1 in
+    let loop = c .before .before .before .loop in
+    omega (arith, if1 .taken, loop .inv .2 (if1 .taken))
 
 idle-requires : tie.Need-idle-requires Inv-loop μ-loop
-idle-requires c κs =
-    let loop = c .before .before .before .before .loop in
-    loop .inv .1
+idle-requires c κs = c .before .before .before .before .loop .inv .1
 
 counted-by-requires : tie.Need-counted-by-requires Inv-loop μ-loop
 counted-by-requires c κs = search needs
@@ -62,27 +70,27 @@ mul-counted : tie.Need-mul-counted Inv-loop μ-loop
 mul-counted c =
     let if1 = c .before .before .before .before .before .before .if1 in
     let loop = c .before .before .before .before .before .before .before .loop in
-    let below = loop .inv .2 (if1 .taken) in omega (arith, if1 .taken)
+    omega (arith, if1 .taken, loop .inv .2 (if1 .taken))
 
 element-set-from-counted : tie.Need-element-set-from-counted Inv-loop μ-loop
 element-set-from-counted c =
     let if1 = c .before .before .before .before .before .before .if1 in
     let loop = c .before .before .before .before .before .before .before .loop in
-    let below = loop .inv .2 (if1 .taken) in omega (arith, if1 .taken)
+    omega (arith, if1 .taken, loop .inv .2 (if1 .taken))
 
 add-m : tie.Need-add-m Inv-loop μ-loop
 add-m c =
     let if1 = c .before .before .before .before .before .before .if1 in
     let loop = c .before .before .before .before .before .before .before .loop in
-    let below = loop .inv .2 (if1 .taken) in omega (arith, if1 .taken)
+    omega (arith, if1 .taken, loop .inv .2 (if1 .taken))
 
 loop-less : tie.Need-loop-less Inv-loop μ-loop
-loop-less c =
-    let if1 = c .before .before .before .before .before .before .if1 in
-    omega (arith, if1 .taken)
+loop-less c = omega (arith, c .before .before .before .before .before .before .if1 .taken)
 
 loop-again : tie.Need-loop-again Inv-loop μ-loop
 loop-again c =
+    let if2 = c .before .if2 in
+    let idle = c .before .before .idle in
     let states-of = c .before .before .before .before .states-of in
     let limit-falls = c .before .before .before .before .before .limit-falls in
     let if1 = c .before .before .before .before .before .before .if1 in
@@ -92,34 +100,34 @@ loop-again c =
       λ h. loop .inv .2 (if1 .taken),
       loop .inv .3,
       rw (c .counted-by .ensures) (ahead-idle (loop .inv .4) (if1 .taken)
-          (sym (rw (states-of .ensures, limit-falls .ensures) at (c .before .before .idle .ensures)) ∙ c .before .if2 .taken)),
+          (sym (rw (states-of .ensures, limit-falls .ensures) at (idle .ensures)) ∙ if2 .taken)),
     )
 
 context-from-requires : tie.Need-context-from-requires Inv-loop μ-loop
 context-from-requires c κs =
     let if1 = c .before .before .before .before .before .if1 in
     let loop = c .before .before .before .before .before .before .loop in
-    let below = loop .inv .2 (if1 .taken) in omega (arith, if1 .taken)
+    omega (arith, if1 .taken, loop .inv .2 (if1 .taken))
 
 mul-p : tie.Need-mul-p Inv-loop μ-loop
 mul-p c =
     let if1 = c .before .before .before .before .before .before .if1 in
     let loop = c .before .before .before .before .before .before .before .loop in
-    let below = loop .inv .2 (if1 .taken) in omega (arith, if1 .taken)
+    omega (arith, if1 .taken, loop .inv .2 (if1 .taken))
 
 array-copy-out-p : tie.Need-array-copy-out-p Inv-loop μ-loop
 array-copy-out-p c =
     let if1 = c .before .before .before .before .before .before .if1 in
     let loop = c .before .before .before .before .before .before .before .loop in
-    let below = loop .inv .2 (if1 .taken) in omega (arith, if1 .taken)
+    omega (arith, if1 .taken, loop .inv .2 (if1 .taken))
 
 turn-requires : tie.Need-turn-requires Inv-loop μ-loop
 turn-requires c κs =
+    let context-from = c .before .context-from in
     let if1 = c .before .before .before .before .before .before .before .if1 in
     let c₁ = c .before .before .before .before .before .before .before .before in
     let loop = c₁ .loop in
-    let below = loop .inv .2 (if1 .taken) in
-    (loop .inv .1, rw (c .before .context-from .ensures) (omega (arith, if1 .taken)))
+    (loop .inv .1, rw (context-from .ensures) (omega (arith, if1 .taken, loop .inv .2 (if1 .taken))))
 
 enum-known-x : tie.Need-enum-known-x Inv-loop μ-loop
 enum-known-x c = search needs
@@ -129,6 +137,7 @@ stopped-requires c κs = search needs
 
 returns : tie.Need-returns Inv-loop μ-loop
 returns c =
+    let x = c .before .before .x in
     let turn = c .before .before .before .before .turn in
     let context-from = c .before .before .before .before .before .before .context-from in
     let c₁ = c .before .before .before .before .before .before .before .before in
@@ -138,7 +147,7 @@ returns c =
     let loop = c₁ .before .before .before .before .before .loop in (
       rw (ahead-stops (loop .inv .4) (if1 .taken)
           (sym (rw (states-of .ensures, context-from .ensures, limit-falls .ensures) at (turn .ensures))
-          ∙ c .before .before .x .given .1))
+          ∙ x .given .1))
           (c .stopped .ensures),
       ap (λ (r : Ran). r .framework .machines) (c .stopped .ensures),
     )
@@ -151,35 +160,35 @@ mul-r2 c =
     let c₁ = c .before .before .before .before .before .before .before .before in
     let if1 = c₁ .before .before .before .before .before .if1 in
     let loop = c₁ .before .before .before .before .before .before .loop in
-    let below = loop .inv .2 (if1 .taken) in omega (arith, if1 .taken)
+    omega (arith, if1 .taken, loop .inv .2 (if1 .taken))
 
 element-set-from-r2 : tie.Need-element-set-from-r2 Inv-loop μ-loop
 element-set-from-r2 c =
     let c₁ = c .before .before .before .before .before .before .before .before in
     let if1 = c₁ .before .before .before .before .before .if1 in
     let loop = c₁ .before .before .before .before .before .before .loop in
-    let below = loop .inv .2 (if1 .taken) in omega (arith, if1 .taken)
+    omega (arith, if1 .taken, loop .inv .2 (if1 .taken))
 
 mul-actions : tie.Need-mul-actions Inv-loop μ-loop
 mul-actions c =
     let c₁ = c .before .before .before .before .before .before .before .before in
     let if1 = c₁ .before .before .before .before .before .if1 in
     let loop = c₁ .before .before .before .before .before .before .loop in
-    let below = loop .inv .2 (if1 .taken) in omega (arith, if1 .taken)
+    omega (arith, if1 .taken, loop .inv .2 (if1 .taken))
 
 array-set-from-actions : tie.Need-array-set-from-actions Inv-loop μ-loop
 array-set-from-actions c =
     let c₁ = c .before .before .before .before .before .before .before .before in
     let if1 = c₁ .before .before .before .before .before .if1 in
     let loop = c₁ .before .before .before .before .before .before .loop in
-    let below = loop .inv .2 (if1 .taken) in omega (arith, if1 .taken)
+    omega (arith, if1 .taken, loop .inv .2 (if1 .taken))
 
 add-m-2 : tie.Need-add-m-2 Inv-loop μ-loop
 add-m-2 c =
     let c₁ = c .before .before .before .before .before .before .before .before in
     let if1 = c₁ .before .before .before .before .before .before .if1 in
     let loop = c₁ .before .before .before .before .before .before .before .loop in
-    let below = loop .inv .2 (if1 .taken) in omega (arith, if1 .taken)
+    omega (arith, if1 .taken, loop .inv .2 (if1 .taken))
 
 loop-less-2 : tie.Need-loop-less-2 Inv-loop μ-loop
 loop-less-2 c =
@@ -208,7 +217,9 @@ loop-again-2 c =
 
 returns-2 : tie.Need-returns-2 Inv-loop μ-loop
 returns-2 c =
-    (rw (ahead-ends (c .before .before .loop .inv .4) (c .before .if1 .left) (c .if3 .taken)), c .before .before .loop .inv .3)
+    let if1 = c .before .if1 in
+    let loop = c .before .before .loop in
+    (rw (ahead-ends (loop .inv .4) (if1 .left) (c .if3 .taken)), loop .inv .3)
 
 mul-kind : tie.Need-mul-kind Inv-loop μ-loop
 mul-kind c = search needs
@@ -276,6 +287,9 @@ loop-less-3 c =
 
 loop-again-3 : tie.Need-loop-again-3 Inv-loop μ-loop
 loop-again-3 c =
+    let started-after = c .before .started-after in
+    let duration-after = c .before .before .duration-after in
+    let padding-after = c .before .before .before .padding-after in
     let normal-after = c .before .before .before .before .normal-after in
     let end-for = c .before .before .before .before .before .end-for in
     let smaller = c .before .before .before .before .before .before .smaller in
@@ -293,8 +307,8 @@ loop-again-3 c =
       loop .inv .3,
       ahead-event (loop .inv .4) (if1 .left) (if3 .left)
           (blocked-since .ensures) (first-for .ensures) (rw (smaller .ensures) at (end-for .ensures .0))
-          (normal-after .ensures) (c .before .before .before .padding-after .ensures) (c .before .before .duration-after .ensures)
-          (c .before .started-after .ensures) (c .active-after .ensures),
+          (normal-after .ensures) (padding-after .ensures) (duration-after .ensures)
+          (started-after .ensures) (c .active-after .ensures),
     )
 
 pub run-events-spec : {M : Type 1} → statement M

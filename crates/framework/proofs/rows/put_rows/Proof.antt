@@ -1,5 +1,5 @@
--- `put_rows` meets its contract. The loop's invariant: the rows of the first m machines are written, `at` is where they end, and what
--- came after them stands.
+-- `put_rows` meets its contract. The loop's invariant: the rows of the first m machines are written, `at` is where
+-- they end, and what came after them stands.
 use borrow.Author.Needs.{needs}
 use Prim.Native.Nat.{ℕ, _+_, _*_, _-_, _/_, _≤_, _<_}
 use mathlib.Core.Path.{_≡_, refl, ap, _∙_}
@@ -14,7 +14,8 @@ use Rattle.framework.proofs.rows.put_rows.Tie as tie
 
 abbrev Inv-loop : tie.InvT-loop
 Inv-loop count out₀ actions at₀ m₀ out at m =
-    (m ≤ count) × (at ≡ length (actionRows actions m)) × (at ≤ 6 * m) × (length out ≡ length out₀) × (out ≡ written (actionRows actions m) out₀)
+    (m ≤ count) × (at ≡ length (actionRows actions m)) × (at ≤ 6 * m) ×
+    (length out ≡ length out₀) × (out ≡ written (actionRows actions m) out₀)
 
 abbrev μ-loop : tie.MeasureT-loop
 μ-loop count out₀ actions at₀ m₀ out at m = count - m
@@ -43,18 +44,21 @@ part-put-row-end c = search needs
 
 put-row-requires : tie.Need-put-row-requires Inv-loop μ-loop
 put-row-requires c κs =
+    let loop-test = c .before .before .loop-test in
     let loop = c .before .before .before .loop in
     let pre = c .before .before .before .before .before .pre in
-    simp (length-take, length-drop) (omega (arith, c .before .before .loop-test .taken, loop .inv .2, loop .inv .3, pre .1))
+    simp (length-take, length-drop) (omega (arith, loop-test .taken, loop .inv .2, loop .inv .3, pre .1))
 
 add-at : tie.Need-add-at Inv-loop μ-loop
 add-at c =
+    let put-row = c .before .before .put-row in
     let loop-test = c .before .before .before .before .before .loop-test in
     let loop = c .before .before .before .before .before .before .loop in
     let c₁ = c .before .before .before .before .before .before .before .before in
     let args = c₁ .args in
     let pre = c₁ .pre in
-    omega (arith, c .before .before .put-row .ensures .0, row-short (loop .m) (getD (args .t1) (loop .m) noAction), loop-test .taken, loop .inv .2, pre .0)
+    let short = row-short (loop .m) (getD (args .t1) (loop .m) noAction) in
+    omega (arith, put-row .ensures .0, short, loop-test .taken, loop .inv .2, pre .0)
 
 add-m : tie.Need-add-m Inv-loop μ-loop
 add-m c = search needs
@@ -70,12 +74,15 @@ loop-again c =
     let c₁ = c .before .before .before .before .before .before .before .before in
     let args = c₁ .args in
     let pre = c₁ .pre in
-    let a = args .t1 in let l = loop in let out₀ = args .out .now in (
+    let a = args .t1 in
+    let m = loop .m in
+    let fits : loop .at ≤ length (loop .out) = omega (arith, loop-test .taken, loop .inv .2, loop .inv .3, pre .1) in (
       omega (arith, loop-test .taken),
-      omega (arith, put-row .ensures .0, rows-longer a (l .m), l .inv .1),
-      omega (arith, put-row .ensures .0, row-short (l .m) (getD a (l .m) noAction), l .inv .2),
-      same (l .out) (put-row .last .0) (l .at) (omega (arith, loop-test .taken, l .inv .2, l .inv .3, pre .1)) (put-row .kept .0) ∙ l .inv .3,
-      row-written a (l .m) out₀ (l .out) (put-row .last .0) (l .at) (l .inv .1) (l .inv .4) (put-row .ensures .1),
+      omega (arith, put-row .ensures .0, rows-longer a m, loop .inv .1),
+      omega (arith, put-row .ensures .0, row-short m (getD a m noAction), loop .inv .2),
+      same (loop .out) (put-row .last .0) (loop .at) fits (put-row .kept .0) ∙ loop .inv .3,
+      row-written a m (args .out .now) (loop .out) (put-row .last .0) (loop .at) (loop .inv .1) (loop .inv .4)
+          (put-row .ensures .1),
     )
 
 same-length : tie.Need-same-length Inv-loop μ-loop

@@ -1,12 +1,13 @@
--- `run_signals` meets its contract. The loop's invariant: the whole round is what the machines from m to `end` are still to hear, and
--- what follows it. The measure counts 17 for the last signal, and the machines left.
+-- `run_signals` meets its contract. The loop's invariant: the whole round is what the machines from m to `end` are
+-- still to hear, and what follows it. The measure counts 17 for the last signal, and the machines left.
 use borrow.Author.Needs.{needs}
 use Prim.Native.Nat.{ℕ, _+_, _*_, _-_, _≤_, _<_, min}
 use mathlib.Core.Path.{_≡_, refl, sym, ap, _∙_}
 use native.Mathlib.Omega.{arith}
 use Rattle.steps.specs.Events.{signals}
 use Rattle.framework.specs.Run.{tables, tapes, run}
-use Rattle.framework.proofs.Heard.{two-left, known-is, Heard, heard-all, heard-skip, heard-turn, heard-stops, heard-last, heard-quiet, heard-dropped, heard-again}
+use Rattle.framework.proofs.Heard.{two-left, known-is, Heard, heard-all, heard-skip, heard-turn, heard-stops}
+use Rattle.framework.proofs.Heard.{heard-last, heard-quiet, heard-dropped, heard-again}
 use Rattle.framework.proofs.signals.run_signals.Statement.{statement}
 use Rattle.framework.proofs.signals.run_signals.Tie as tie
 
@@ -39,8 +40,9 @@ loop-less c = omega (arith, c .before .if1 .taken)
 
 loop-again : tie.Need-loop-again Inv-loop μ-loop
 loop-again c =
+    let if1 = c .before .if1 in
     let loop = c .before .before .loop in
-    (loop .inv .0, loop .inv .1, heard-skip (loop .inv .2) (c .before .if1 .taken) (c .if2 .taken))
+    (loop .inv .0, loop .inv .1, heard-skip (loop .inv .2) (if1 .taken) (c .if2 .taken))
 
 states-of-requires : tie.Need-states-of-requires Inv-loop μ-loop
 states-of-requires c κs = omega (arith, c .before .before .loop .inv .0, c .before .if1 .taken)
@@ -51,13 +53,15 @@ context-from-requires c κs =
 
 mul-r : tie.Need-mul-r Inv-loop μ-loop
 mul-r c =
+    let if1 = c .before .before .before .if1 in
     let loop = c .before .before .before .before .loop in
-    omega (arith, loop .inv .0, c .before .before .before .if1 .taken)
+    omega (arith, loop .inv .0, if1 .taken)
 
 element-copy-out-r : tie.Need-element-copy-out-r Inv-loop μ-loop
 element-copy-out-r c =
+    let if1 = c .before .before .before .if1 in
     let loop = c .before .before .before .before .loop in
-    omega (arith, loop .inv .0, c .before .before .before .if1 .taken)
+    omega (arith, loop .inv .0, if1 .taken)
 
 mul-p : tie.Need-mul-p Inv-loop μ-loop
 mul-p c =
@@ -73,15 +77,18 @@ array-copy-out-p c =
 
 transition-requires : tie.Need-transition-requires Inv-loop μ-loop
 transition-requires c κs =
+    let context-from = c .before .before .context-from in
     let if1 = c .before .before .before .before .before .if1 in
     let loop = c .before .before .before .before .before .before .loop in
-    (omega arith, rw (c .before .before .context-from .ensures) (omega (arith, loop .inv .0, if1 .taken)))
+    (omega arith, rw (context-from .ensures) (omega (arith, loop .inv .0, if1 .taken)))
 
 enum-known-x : tie.Need-enum-known-x Inv-loop μ-loop
 enum-known-x c = search needs
 
 returns : tie.Need-returns Inv-loop μ-loop
 returns c =
+    let x = c .before .x in
+    let transition = c .before .before .before .transition in
     let context-from = c .before .before .before .before .before .before .context-from in
     let states-of = c .before .before .before .before .before .before .before .states-of in
     let c₁ = c .before .before .before .before .before .before .before .before in
@@ -89,8 +96,8 @@ returns c =
     let if1 = c₁ .before .if1 in
     let loop = c₁ .before .before .loop in (
       rw (heard-stops (loop .inv .2) (if1 .taken) (if2 .left)
-          (sym (rw (states-of .ensures, context-from .ensures) at (c .before .before .before .transition .ensures 2 (two-left (loop .t))))
-          ∙ c .before .x .given .1)),
+          (sym (rw (states-of .ensures, context-from .ensures) at (transition .ensures 2 (two-left (loop .t))))
+          ∙ x .given .1)),
       refl,
     )
 
@@ -157,12 +164,15 @@ loop-again-2 c =
 
 returns-2 : tie.Need-returns-2 Inv-loop μ-loop
 returns-2 c =
-    (rw (heard-quiet (c .before .before .before .loop .inv .2) (c .before .before .if1 .left) (c .if3 .taken)), c .before .before .before .loop .inv .1)
+    let if1 = c .before .before .if1 in
+    let loop = c .before .before .before .loop in
+    (rw (heard-quiet (loop .inv .2) (if1 .left) (c .if3 .taken)), loop .inv .1)
 
 returns-3 : tie.Need-returns-3 Inv-loop μ-loop
 returns-3 c =
+    let if1 = c .before .before .before .if1 in
     let loop = c .before .before .before .before .loop in
-    (rw (heard-last (loop .inv .2) (c .before .before .before .if1 .left) (c .if4 .taken)), loop .inv .1)
+    (rw (heard-last (loop .inv .2) (if1 .left) (c .if4 .taken)), loop .inv .1)
 
 smaller-requires-2 : tie.Need-smaller-requires-2 Inv-loop μ-loop
 smaller-requires-2 c κs = search needs
@@ -172,39 +182,54 @@ known-requires c κs = rw (c .smaller2 .ensures) (omega arith)
 
 sub-m : tie.Need-sub-m Inv-loop μ-loop
 sub-m c =
+    let known = c .before .known in
+    let smaller2 = c .before .before .smaller2 in
     let loop = c .before .before .before .before .before .before .before .loop in
-    omega (arith, known-is (loop .left-out) _ (sym (rw (c .before .before .smaller2 .ensures) at (c .before .known .ensures)) ∙ c .if5 .taken) .0)
+    let k = known-is (loop .left-out) _ (sym (rw (smaller2 .ensures) at (known .ensures)) ∙ c .if5 .taken) in
+    omega (arith, k .0)
 
 add-end : tie.Need-add-end Inv-loop μ-loop
 add-end c =
+    let known = c .before .known in
+    let smaller2 = c .before .before .smaller2 in
     let loop = c .before .before .before .before .before .before .before .loop in
-    let k = known-is (loop .left-out) _ (sym (rw (c .before .before .smaller2 .ensures) at (c .before .known .ensures)) ∙ c .if5 .taken) in
+    let k = known-is (loop .left-out) _ (sym (rw (smaller2 .ensures) at (known .ensures)) ∙ c .if5 .taken) in
     omega (arith, k .0, k .1)
 
 loop-less-3 : tie.Need-loop-less-3 Inv-loop μ-loop
 loop-less-3 c =
+    let known = c .before .known in
+    let smaller2 = c .before .before .smaller2 in
+    let if4 = c .before .before .before .if4 in
     let loop = c .before .before .before .before .before .before .before .loop in
-    omega (arith, c .before .before .before .if4 .left, known-is (loop .left-out) _ (sym (rw (c .before .before .smaller2 .ensures) at (c .before .known .ensures)) ∙ c .if5 .taken) .0)
+    let k = known-is (loop .left-out) _ (sym (rw (smaller2 .ensures) at (known .ensures)) ∙ c .if5 .taken) in
+    omega (arith, if4 .left, k .0)
 
 loop-again-3 : tie.Need-loop-again-3 Inv-loop μ-loop
 loop-again-3 c =
+    let known = c .before .known in
+    let smaller2 = c .before .before .smaller2 in
+    let if4 = c .before .before .before .if4 in
     let if3 = c .before .before .before .before .if3 in
     let if1 = c .before .before .before .before .before .before .if1 in
     let loop = c .before .before .before .before .before .before .before .loop in
-    let k = known-is (loop .left-out) _ (sym (rw (c .before .before .smaller2 .ensures) at (c .before .known .ensures)) ∙ c .if5 .taken) in (
+    let k = known-is (loop .left-out) _ (sym (rw (smaller2 .ensures) at (known .ensures)) ∙ c .if5 .taken) in (
       omega (arith, k .0, k .1),
       loop .inv .1,
-      heard-again (loop .inv .2) (if1 .left) (if3 .left) (c .before .before .before .if4 .left)
-          (sym (rw (c .before .before .smaller2 .ensures) at (c .before .known .ensures)) ∙ c .if5 .taken),
+      heard-again (loop .inv .2) (if1 .left) (if3 .left) (if4 .left)
+          (sym (rw (smaller2 .ensures) at (known .ensures)) ∙ c .if5 .taken),
     )
 
 returns-4 : tie.Need-returns-4 Inv-loop μ-loop
 returns-4 c =
+    let known = c .before .known in
+    let smaller2 = c .before .before .smaller2 in
+    let if4 = c .before .before .before .if4 in
     let if3 = c .before .before .before .before .if3 in
     let if1 = c .before .before .before .before .before .before .if1 in
     let loop = c .before .before .before .before .before .before .before .loop in (
-      rw (heard-dropped (loop .inv .2) (if1 .left) (if3 .left) (c .before .before .before .if4 .left)
-          (sym (rw (c .before .before .smaller2 .ensures) at (c .before .known .ensures)) ∙ c .if5 .left)),
+      rw (heard-dropped (loop .inv .2) (if1 .left) (if3 .left) (if4 .left)
+          (sym (rw (smaller2 .ensures) at (known .ensures)) ∙ c .if5 .left)),
       loop .inv .1,
     )
 

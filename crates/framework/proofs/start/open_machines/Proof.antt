@@ -1,4 +1,5 @@
--- `open_machines` meets its contract. The loop's invariant: the whole opening is what is left of it from machine m on.
+-- `open_machines` meets its contract. The loop's invariant: the whole opening is what is left of it from machine m
+-- on.
 use borrow.Author.Needs.{needs}
 use Prim.Native.Nat.{ℕ, _+_, _*_, _-_, _≤_, _<_}
 use mathlib.Core.Path.{_≡_, refl, sym, ap, _∙_}
@@ -24,13 +25,15 @@ new-framework-requires : tie.Need-new-framework-requires Inv-loop μ-loop
 new-framework-requires c κs = search needs
 
 loop-holds : tie.Need-loop-holds Inv-loop μ-loop
-loop-holds c =
-    (omega arith, rw (c .new-framework .ensures) refl, λ ts. record { is = rw (c .new-framework .ensures, sub-zero) })
+loop-holds c = (
+  omega arith,
+  rw (c .new-framework .ensures) refl,
+  λ ts. record { is = rw (c .new-framework .ensures, sub-zero) },
+)
 
 states-of-requires : tie.Need-states-of-requires Inv-loop μ-loop
 states-of-requires c κs =
-    let pre = c .before .before .before .before .before .before .pre in
-    omega (arith, c .loop-test .taken, pre)
+    omega (arith, c .loop-test .taken, c .before .before .before .before .before .before .pre)
 
 state-row-requires : tie.Need-state-row-requires Inv-loop μ-loop
 state-row-requires c κs = search needs
@@ -46,6 +49,7 @@ unopened-requires c κs = search needs
 
 returns : tie.Need-returns Inv-loop μ-loop
 returns c =
+    let limit = c .before .before .limit in
     let start-limit = c .before .before .before .before .start-limit in
     let state-row = c .before .before .before .before .before .state-row in
     let states-of = c .before .before .before .before .before .before .states-of in
@@ -54,7 +58,7 @@ returns c =
     let loop = c₁ .loop in
     λ ts.
     rw (opens-stop (loop .inv .2 ts) (loop-test .taken)
-    (sym (rw (state-row .ensures, states-of .ensures) at (start-limit .ensures)) ∙ c .before .before .limit .given .1))
+    (sym (rw (state-row .ensures, states-of .ensures) at (start-limit .ensures)) ∙ limit .given .1))
     (c .unopened .ensures)
 
 enum-known-limit-2 : tie.Need-enum-known-limit-2 Inv-loop μ-loop
@@ -106,6 +110,8 @@ loop-less c = search needs
 
 loop-again : tie.Need-loop-again Inv-loop μ-loop
 loop-again c =
+    let word = c .before .word in
+    let limit2 = c .before .before .before .limit2 in
     let start-limit = c .before .before .before .before .before .start-limit in
     let state-row = c .before .before .before .before .before .before .state-row in
     let states-of = c .before .before .before .before .before .before .before .states-of in
@@ -116,8 +122,8 @@ loop-again c =
       loop .inv .1,
       λ ts.
           opens-on (loop .inv .2 ts) (loop-test .taken)
-          (sym (rw (state-row .ensures, states-of .ensures) at (start-limit .ensures)) ∙ c .before .before .before .limit2 .given .1)
-          (rw (c .before .word .ensures, ← loop .inv .1) at (c .new-runtime .ensures)),
+          (sym (rw (state-row .ensures, states-of .ensures) at (start-limit .ensures)) ∙ limit2 .given .1)
+          (rw (word .ensures, ← loop .inv .1) at (c .new-runtime .ensures)),
     )
 
 returns-2 : tie.Need-returns-2 Inv-loop μ-loop
