@@ -46,7 +46,8 @@ none-then a b e =
     (λ (z : eqb a 0 ≡ false). absurd (eqb-false a 0 z (rw z at e)))
     (bool-cases (eqb a 0))
 
-pub few-machines : (machines states transitions : List ℕ) → tablesRefusal machines states transitions ≡ 0 → rowsIn machines ≤ 16
+pub few-machines : (machines states transitions : List ℕ) →
+    tablesRefusal machines states transitions ≡ 0 → rowsIn machines ≤ 16
 few-machines machines states transitions e = zero-valid machines states transitions e .whole .most
 
 machines-fit : (T : Tables) (fw : Framework) → fitsTables T fw ≡ true → fw .machines ≡ rowsIn (T .machines)
@@ -60,13 +61,15 @@ kinds-fit : (es : List ℕ) → eventsFit es ≡ true → kindsFit es (length es
 unfolding eventsFit
 kinds-fit es e = both (eqb (length es % 2) 0) (kindsFit es (length es / 2)) e .1
 
--- a batch that is not refused before it runs: its kinds are known, and its output has room for a row of each machine
+-- what holds of a batch that runs: its kinds are known, and its output has room for a row of each machine
 pub batch-passes : (fw : Framework) (T : Tables) (es out : List ℕ) → batchRefusal fw T es out ≡ 0 →
     (kindsFit es (length es / 2) ≡ true) × (6 * numMachines fw ≤ length out)
 unfolding batchRefusal
 batch-passes fw T es out e =
-    let fits = passes (fitsTables T fw) (cond (eventsFit es) (cond (ltb (length out) (6 * rowsIn (T .machines))) 20 0) 19) 18 (λ z. omega (arith, z)) (none-then _ _ e) in
-    let events = passes (eventsFit es) (cond (ltb (length out) (6 * rowsIn (T .machines))) 20 0) 19 (λ z. omega (arith, z)) (fits .1) in
-    let room = passes-not (ltb (length out) (6 * rowsIn (T .machines))) 20 (λ z. omega (arith, z)) (events .1) in
+    let short = ltb (length out) (6 * rowsIn (T .machines)) in
+    let room : ℕ = cond short 20 0 in
+    let fits = passes (fitsTables T fw) (cond (eventsFit es) room 19) 18 (λ z. omega (arith, z)) (none-then _ _ e) in
+    let events = passes (eventsFit es) room 19 (λ z. omega (arith, z)) (fits .1) in
+    let long = ltb-false (length out) (6 * rowsIn (T .machines)) (passes-not short 20 (λ z. omega (arith, z)) (events .1)) in
     let count : fw .machines ≡ rowsIn (T .machines) = machines-fit T fw (fits .0) in
-    (kinds-fit es (events .0), omega (arith, ltb-false (length out) (6 * rowsIn (T .machines)) room, count))
+    (kinds-fit es (events .0), omega (arith, long, count))

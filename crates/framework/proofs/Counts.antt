@@ -1,4 +1,4 @@
--- What an event counts, field by field, is what `accounted` says of the whole framework; and the kinds of checked events.
+-- What an event counts, field by field, is what `accounted` says of the whole framework; the kinds of checked events.
 use Prim.Native.Nat.{ℕ, suc, _+_, _/_, _≤_, _<_}
 use mathlib.Core.Path.{_≡_, refl, sym, ap, subst, _∙_}
 use mathlib.Core.Bool.{Bool, true, false, cond}
@@ -39,7 +39,8 @@ afterCounts kind fw =
     (startedAfter kind (fw .«blocking_active») (fw .«blocking_started») (fw .«current_time»))
     (activeAfter kind (fw .«blocking_active»))
 
-pub blocked-is : (fw : Framework) → blockedFor fw ≡ blockedSince (fw .«blocking_active») (fw .«current_time») (fw .«blocking_started»)
+pub blocked-is : (fw : Framework) →
+    blockedFor fw ≡ blockedSince (fw .«blocking_active») (fw .«current_time») (fw .«blocking_started»)
 unfolding blockedFor blockedSince
 blocked-is fw = refl
 
@@ -58,8 +59,14 @@ module _ (fw : Framework) where
 
   at-end : accounted blockingEnd fw ≡ afterCounts blockingEnd fw
   unfolding accounted normalAfter paddingAfter durationAfter startedAfter activeAfter
-  at-end = ⊎-elim (λ off. rw off) (λ on.
-      rw on (ap (λ (b : ℕ). withBlocking fw (saturatingAdd (fw .«blocking_duration») b) (fw .«blocking_started») 0) (blocked-is fw))) (bool-cases (eqb (fw .«blocking_active») 0))
+  at-end =
+      ⊎-elim
+      (λ off. rw off)
+      (λ on. rw on (ap (λ (b : ℕ). ended b) (blocked-is fw)))
+      (bool-cases (eqb (fw .«blocking_active») 0))
+    where
+      ended : ℕ → Framework
+      ended b = withBlocking fw (saturatingAdd (fw .«blocking_duration») b) (fw .«blocking_started») 0
 
   module _ (kind : ℕ) where
     at-kind : (k : ℕ) → accounted k fw ≡ afterCounts k fw → eqb kind k ≡ true → accounted kind fw ≡ afterCounts kind fw

@@ -20,19 +20,23 @@ use Rattle.framework.proofs.Turns.{each-end, each-on}
 abbrev pub opens : Framework → ℕ → Run
 opens fw at = run fw noActions (withValueAt (sharedFrom 0) at)
 
-module _ (T : Tables) (values : List Float) (n m : ℕ) (fw : Framework) (at : ℕ) where
-  pub opens-end : n ≤ m → each (openTurn T values) (n - m) m (opens fw at) ≡ go (opens fw at)
-  opens-end = each-end (openTurn T values) n m (opens fw at)
+-- What is left of an opening whose outcome is o: the machines from m to n.
+pub record Opens (o : Outcome) (T : Tables) (values : List Float) (n m : ℕ) (fw : Framework) (at : ℕ) : Type 0 where
+  pub is : o ≡ each (openTurn T values) (n - m) m (opens fw at)
+
+module _ {o : Outcome} {T : Tables} {values : List Float} {n m : ℕ} {fw : Framework} {at : ℕ}
+    (a : Opens o T values n m fw at) where
+  pub opens-end : n ≤ m → o ≡ go (opens fw at)
+  opens-end h = a .is ∙ each-end (openTurn T values) n m (opens fw at) h
 
   module _ (h : m < n) where
-    pub opens-on : (w : Whole) → startLimit (stateRow (statesOf T m) 0) values at ≡ GotWhole w → (r : MachineRuntime) →
+    pub opens-on : {w : Whole} → startLimit (stateRow (statesOf T m) 0) values at ≡ GotWhole w →
+        {r : MachineRuntime} →
         r ≡ newRuntime (fw .«current_time») (machineWord (T .machines) m allowedBlockedMicrosec) (w .value) →
-        each (openTurn T values) (n - m) m (opens fw at)
-        ≡ each (openTurn T values) (n - (m + 1)) (m + 1) (opens (withRuntime fw (set (fw .runtime) m r)) (w .at))
+        Opens o T values n (m + 1) (withRuntime fw (set (fw .runtime) m r)) (w .at)
     unfolding openTurn
-    opens-on w e r q = rw q (each-on (openTurn T values) n m (opens fw at) h ∙ rw e)
+    opens-on e q = record { is = a .is ∙ rw q (each-on (openTurn T values) n m (opens fw at) h ∙ rw e) }
 
-    pub opens-stop : (why : ℕ) → startLimit (stateRow (statesOf T m) 0) values at ≡ NoWhole why →
-        each (openTurn T values) (n - m) m (opens fw at) ≡ stop why
+    pub opens-stop : {why : ℕ} → startLimit (stateRow (statesOf T m) 0) values at ≡ NoWhole why → o ≡ stop why
     unfolding openTurn
-    opens-stop why e = each-on (openTurn T values) n m (opens fw at) h ∙ rw e
+    opens-stop e = a .is ∙ each-on (openTurn T values) n m (opens fw at) h ∙ rw e

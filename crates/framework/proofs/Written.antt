@@ -13,7 +13,8 @@ use Rattle.steps.specs.Framework.{actionRow, actionRows, written}
 use Rattle.steps.specs.declared.TriggerAction.{TriggerAction}
 
 -- words w that are written through the part of `out` from `at` on, where `out` is R and then what came
-pasted : (R o out w ys : List ℕ) (at : ℕ) → at ≡ length R → out ≡ written R o → ys ≡ written w (take (length out - at) (drop at out)) →
+pasted : (R o out w ys : List ℕ) (at : ℕ) → at ≡ length R → out ≡ written R o →
+    ys ≡ written w (take (length out - at) (drop at out)) →
     take at out ++ (ys ++ drop (length out - at) (drop at out)) ≡ written (R ++ w) o
 pasted R o out w ys at e h y =
     let D : List ℕ = drop (length R) o in
@@ -34,11 +35,13 @@ module _ (actions : List TriggerAction) (m : ℕ) where
   unfolding actionRows
   rows-more = rw add-one
 
-  pub rows-longer : length (actionRows actions (m + 1)) ≡ length (actionRows actions m) + length (actionRow m (getD actions m noAction))
+  pub rows-longer :
+      length (actionRows actions (m + 1)) ≡ length (actionRows actions m) + length (actionRow m (getD actions m noAction))
   rows-longer = ap length rows-more ∙ length-append (actionRows actions m) (actionRow m (getD actions m noAction))
 
   -- one machine's row behind those before it
-  pub row-written : (o out ys : List ℕ) (at : ℕ) → at ≡ length (actionRows actions m) → out ≡ written (actionRows actions m) o →
+  pub row-written : (o out ys : List ℕ) (at : ℕ) →
+      at ≡ length (actionRows actions m) → out ≡ written (actionRows actions m) o →
       ys ≡ written (actionRow m (getD actions m noAction)) (take (length out - at) (drop at out)) →
       take at out ++ (ys ++ drop (length out - at) (drop at out)) ≡ written (actionRows actions (m + 1)) o
   row-written o out ys at e h y =
@@ -46,6 +49,7 @@ module _ (actions : List TriggerAction) (m : ℕ) where
       ∙ ap (λ (R : List ℕ). written R o) (sym rows-more)
 
 -- a part that is written and is as long as it was leaves the length
-pub same : (out ys : List ℕ) (at : ℕ) → at ≤ length out → length ys ≡ length (take (length out - at) (drop at out)) →
+pub same : (out ys : List ℕ) (at : ℕ) → at ≤ length out →
+    length ys ≡ length (take (length out - at) (drop at out)) →
     length (take at out ++ (ys ++ drop (length out - at) (drop at out))) ≡ length out
 same out ys at h e = simp (length-append, e, length-take, length-drop) (omega arith)

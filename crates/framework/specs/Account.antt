@@ -1,5 +1,5 @@
--- What an event counts and whose turn it is, field by field: `accounted`, `contextOf` and `processEvent` of `steps` over numbers, so
--- that no step of the code takes the whole framework.
+-- What an event counts and what a turn reads, field by field: `accounted` and `contextOf` of `steps` over numbers, so that
+-- no step of the code takes the whole framework.
 use Prim.Native.Nat.{ℕ, _+_, _-_, _*_}
 use mathlib.Core.List.{List}
 use mathlib.Core.Bool.{Bool, cond, not, _&&_, _||_}
@@ -39,7 +39,7 @@ activeAfter kind active =
     cond (eqb kind blockingBegin) (cond (isOn active) active 1)
     (cond (eqb kind blockingEnd) (cond (isOn active) 0 active) active)
 
--- a turn changes the machine's counts alone: it has ended, or its state has no row for the event; and its limit does not fall
+-- a turn changes the machine's counts alone: it has ended or its state has no row for the event, and no limit falls
 unfoldable pub idleAt : Bool → List ℕ → ℕ → ℕ → Bool
 idleAt falls rows state kind =
     not falls && (eqb state stateEnd || eqb (countOf (stateRow rows state) (eventOf kind)) 0)

@@ -163,7 +163,10 @@ pub fn limit_falls(kind: u64, machine: u64, m: u64) -> bool
 // A machine's own part of the state table.
 pub fn states_of<'a>(machines: &[u64], states: &'a [u64], m: usize) -> &'a [u64]
     requires { ⌜ m < 16 ⌝ }
-    ensures { λ r. ⌜ now r ≡ rowsOf stateWords (now (states .entry)) (machineWord (now (machines .entry)) m firstState) (machineWord (now (machines .entry)) m numStates) ⌝ }
+    ensures { λ r. ⌜ (
+        let first = machineWord (now (machines .entry)) m firstState in
+        let count = machineWord (now (machines .entry)) m numStates in
+        now r ≡ rowsOf stateWords (now (states .entry)) first count) ⌝ }
 {
     let at = m * MACHINE_WORDS;
     state_rows(states, word(machines, at + 4), word(machines, at + 5))
@@ -200,7 +203,9 @@ pub fn context_from(
     framework_start: u64,
 ) -> Context
     requires { ⌜ m < 16 ⌝ }
-    ensures { λ r. ⌜ r ≡ contextFrom (now (machines .entry)) m «current_time» «max_padding_frac» «normal_sent_packets» «padding_sent_packets» «max_blocking_frac» «blocking_duration» «blocking_started» «blocking_active» «framework_start» ⌝ }
+    ensures { λ r. ⌜ r ≡ contextFrom (now (machines .entry)) m «current_time»
+        «max_padding_frac» «normal_sent_packets» «padding_sent_packets»
+        «max_blocking_frac» «blocking_duration» «blocking_started» «blocking_active» «framework_start» ⌝ }
 {
     let at = m * MACHINE_WORDS;
     let allowed_padding_packets = word(machines, at);

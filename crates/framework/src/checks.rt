@@ -27,7 +27,8 @@ pub fn state_fits(current_state: u64, num_states: u64) -> bool
 // The current states of the first `count` machines.
 pub fn states_fit(fw: Framework, machines: &[u64], count: usize) -> bool
     requires { ⌜ count ≤ 16 ⌝ }
-    ensures { λ r. ⌜ ((states transitions : List ℕ) → r ≡ statesFit (tables (now (machines .entry)) states transitions) fw count) ⌝ }
+    ensures { λ r. ⌜ ((states transitions : List ℕ) →
+        r ≡ statesFit (tables (now (machines .entry)) states transitions) fw count) ⌝ }
 {
     let mut m = 0;
     while m < count {
@@ -45,7 +46,8 @@ pub fn states_fit(fw: Framework, machines: &[u64], count: usize) -> bool
 // machine.
 pub fn fits_tables(fw: Framework, machines: &[u64]) -> bool
     requires { ⌜ rowsIn (now machines) ≤ 16 ⌝ }
-    ensures { λ r. ⌜ ((states transitions : List ℕ) → r ≡ fitsTables (tables (now (machines .entry)) states transitions) fw) ⌝ }
+    ensures { λ r. ⌜ ((states transitions : List ℕ) →
+        r ≡ fitsTables (tables (now (machines .entry)) states transitions) fw) ⌝ }
 {
     let count = machines.len() / MACHINE_WORDS;
     if fw.machines == count as u64 {

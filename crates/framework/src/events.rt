@@ -81,7 +81,11 @@ pub fn run_events(
     values: &[f64],
 ) -> Ran
     requires { ⌜ kindsFit (now events) (length (now events) / 2) ≡ true ⌝ }
-    ensures is { λ r. ⌜ r ≡ ranFrom (entered fw) (each (eventTurn (tables (now (machines .entry)) (now (states .entry)) (now (transitions .entry))) (tapes (now (chances .entry)) (now (values .entry))) (now (events .entry))) (length (now (events .entry)) / 2) 0 (begin fw time)) ⌝ }
+    ensures is { λ r. ⌜ (
+        let T = tables (now (machines .entry)) (now (states .entry)) (now (transitions .entry)) in
+        let D = tapes (now (chances .entry)) (now (values .entry)) in
+        let es = now (events .entry) in
+        r ≡ ranFrom (entered fw) (each (eventTurn T D es) (length es / 2) 0 (begin fw time))) ⌝ }
     ensures keeps { λ r. ⌜ r .framework .machines ≡ fw .machines ⌝ }
 {
     let none = no_action();

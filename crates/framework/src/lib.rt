@@ -32,7 +32,9 @@ pub fn opening(
     transitions: &[u64],
     values: &[f64],
 ) -> Opened
-    ensures { λ r. ⌜ r ≡ Spec.opening (tables (now (machines .entry)) (now (states .entry)) (now (transitions .entry))) «max_padding_frac» «max_blocking_frac» time (now (values .entry)) ⌝ }
+    ensures { λ r. ⌜ (
+        let T = tables (now (machines .entry)) (now (states .entry)) (now (transitions .entry)) in
+        r ≡ Spec.opening T «max_padding_frac» «max_blocking_frac» time (now (values .entry))) ⌝ }
 {
     let fractions = tables::check_fractions(max_padding_frac, max_blocking_frac);
     if fractions != 0 {
@@ -61,7 +63,9 @@ pub fn batch_refusal(
     events: &[u64],
     room: usize,
 ) -> u64
-    ensures { λ r. ⌜ ((out : List ℕ) → length out ≡ room → r ≡ Spec.batchRefusal fw (tables (now (machines .entry)) (now (states .entry)) (now (transitions .entry))) (now (events .entry)) out) ⌝ }
+    ensures { λ r. ⌜ (
+        let T = tables (now (machines .entry)) (now (states .entry)) (now (transitions .entry)) in
+        ((out : List ℕ) → length out ≡ room → r ≡ Spec.batchRefusal fw T (now (events .entry)) out)) ⌝ }
 {
     let refusal = tables::check_tables(machines, states, transitions);
     if refusal != 0 {
@@ -91,7 +95,10 @@ pub fn trigger_events(
     values: &[f64],
 ) -> Ran
     requires { ⌜ Spec.kindsFit (now events) (length (now events) / 2) ≡ true ⌝ }
-    ensures is { λ r. ⌜ r ≡ ranFrom (entered fw) (Spec.triggerEvents (tables (now (machines .entry)) (now (states .entry)) (now (transitions .entry))) (tapes (now (chances .entry)) (now (values .entry))) time (now (events .entry)) fw) ⌝ }
+    ensures is { λ r. ⌜ (
+        let T = tables (now (machines .entry)) (now (states .entry)) (now (transitions .entry)) in
+        let D = tapes (now (chances .entry)) (now (values .entry)) in
+        r ≡ ranFrom (entered fw) (Spec.triggerEvents T D time (now (events .entry)) fw)) ⌝ }
     ensures keeps { λ r. ⌜ r .framework .machines ≡ fw .machines ⌝ }
 {
     let ran = events::run_events(
@@ -150,7 +157,9 @@ pub fn refused(fw: Framework, refusal: u64) -> Answer
 // An accepted batch: the rows are written, and a signal that is still pending waits for the next.
 pub fn accepted(ran: Ran, out: &mut [u64]) -> Answer
     requires { ⌜ 6 * numMachines (ran .framework) ≤ length (now out) ⌝ }
-    ensures { λ r. ⌜ (r ≡ Spec.accepted (runOf ran) (now (out .entry)) .answer) × (now (out .exit) ≡ Spec.accepted (runOf ran) (now (out .entry)) .out) ⌝ }
+    ensures { λ r. ⌜ (
+        let B = Spec.accepted (runOf ran) (now (out .entry)) in
+        (r ≡ B .answer) × (now (out .exit) ≡ B .out)) ⌝ }
 {
     let mut f = ran.framework;
     let actions = ran.actions;
@@ -178,7 +187,11 @@ pub fn batch(
     values: &[f64],
     out: &mut [u64],
 ) -> Answer
-    ensures { λ r. ⌜ (r ≡ Spec.batch fw (tables (now (machines .entry)) (now (states .entry)) (now (transitions .entry))) time (now (events .entry)) (tapes (now (chances .entry)) (now (values .entry))) (now (out .entry)) .answer) × (now (out .exit) ≡ Spec.batch fw (tables (now (machines .entry)) (now (states .entry)) (now (transitions .entry))) time (now (events .entry)) (tapes (now (chances .entry)) (now (values .entry))) (now (out .entry)) .out) ⌝ }
+    ensures { λ r. ⌜ (
+        let T = tables (now (machines .entry)) (now (states .entry)) (now (transitions .entry)) in
+        let D = tapes (now (chances .entry)) (now (values .entry)) in
+        let B = Spec.batch fw T time (now (events .entry)) D (now (out .entry)) in
+        (r ≡ B .answer) × (now (out .exit) ≡ B .out)) ⌝ }
 {
     let refusal = batch_refusal(fw, machines, states, transitions, events, out.len());
     if refusal != 0 {

@@ -9,7 +9,9 @@ ghost use Rattle.steps.specs.Framework.{actionRow, actionRows, written};
 // action.
 pub fn put_row(row: &mut [u64], machine: u64, p: TriggerAction) -> usize
     requires { ⌜ 6 ≤ length (now row) ⌝ }
-    ensures { λ r. ⌜ (r ≡ length (actionRow machine p)) × (now (row .exit) ≡ written (actionRow machine p) (now (row .entry))) ⌝ }
+    ensures { λ r. ⌜ (
+        let words = actionRow machine p in
+        (r ≡ length words) × (now (row .exit) ≡ written words (now (row .entry)))) ⌝ }
 {
     if p.kind == 0 {
         return 0;
@@ -26,7 +28,9 @@ pub fn put_row(row: &mut [u64], machine: u64, p: TriggerAction) -> usize
 // The rows of the first `count` machines, and how many rows. Words after the last row stay.
 pub fn put_rows(actions: [TriggerAction; 16], count: usize, out: &mut [u64]) -> u64
     requires { ⌜ (count ≤ 16) × (6 * count ≤ length (now out)) ⌝ }
-    ensures { λ r. ⌜ (r ≡ length (actionRows actions count) / 6) × (now (out .exit) ≡ written (actionRows actions count) (now (out .entry))) ⌝ }
+    ensures { λ r. ⌜ (
+        let words = actionRows actions count in
+        (r ≡ length words / 6) × (now (out .exit) ≡ written words (now (out .entry)))) ⌝ }
 {
     let mut at = 0;
     let mut m = 0;

@@ -41,7 +41,10 @@ pub fn run_signals(
     s: Shared,
 ) -> Ran
     requires { ⌜ (s .«signal_pending» ≡ 0 → ⊥) ⌝ }
-    ensures is { λ r. ⌜ r ≡ ranFrom (run fw actions s) (signals (tables (now (machines .entry)) (now (states .entry)) (now (transitions .entry))) (tapes (now (chances .entry)) (now (values .entry))) (run fw actions s)) ⌝ }
+    ensures is { λ r. ⌜ (
+        let T = tables (now (machines .entry)) (now (states .entry)) (now (transitions .entry)) in
+        let D = tapes (now (chances .entry)) (now (values .entry)) in
+        r ≡ ranFrom (run fw actions s) (signals T D (run fw actions s))) ⌝ }
     ensures keeps { λ r. ⌜ r .framework .machines ≡ fw .machines ⌝ }
 {
     let mut f = fw;

@@ -93,7 +93,9 @@ pub fn open_machines(
     values: &[f64],
 ) -> Opened
     requires { ⌜ rowsIn (now machines) ≤ 16 ⌝ }
-    ensures { λ r. ⌜ ((transitions : List ℕ) → r ≡ openedBy (openRun (tables (now (machines .entry)) (now (states .entry)) transitions) «max_padding_frac» «max_blocking_frac» time (now (values .entry)))) ⌝ }
+    ensures { λ r. ⌜ ((transitions : List ℕ) →
+        let T = tables (now (machines .entry)) (now (states .entry)) transitions in
+        r ≡ openedBy (openRun T «max_padding_frac» «max_blocking_frac» time (now (values .entry)))) ⌝ }
 {
     let count = machines.len() / MACHINE_WORDS;
     let mut f = new_framework(count as u64, max_padding_frac, max_blocking_frac, time);

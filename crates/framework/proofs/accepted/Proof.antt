@@ -10,14 +10,18 @@ smaller-requires c κs = search needs
 
 put-rows-requires : tie.Need-put-rows-requires
 put-rows-requires c κs =
-    rw (c .before .smaller .ensures) (omega arith, c .before .before .before .before .before .before .pre)
+    let smaller = c .before .smaller in
+    let pre = c .before .before .before .before .before .before .pre in
+    rw (smaller .ensures) (omega arith, pre)
 
 same-length : tie.Need-same-length
 same-length c = search needs
 
 returns : tie.Need-returns
 returns c =
-    let e = rw (c .before .before .before .before .smaller .ensures) at (c .before .before .put-rows .ensures) in (rw (e .0), e .1)
+    let put-rows = c .before .before .put-rows in
+    let smaller = c .before .before .before .before .smaller in
+    let e = rw (smaller .ensures) at (put-rows .ensures) in (rw (e .0), e .1)
 
 pub accepted-spec : {M : Type 1} → statement M
 accepted-spec = tie.close (tie.spec smaller-requires put-rows-requires same-length returns)

@@ -18,11 +18,19 @@ refused-requires c κs = search needs
 returns : tie.Need-returns
 unfolding batch
 returns c =
-    let q = ne-eqb _ _ (λ z. c .before .if1 .taken ((c .before .before .batch-refusal .ensures (c .before .before .before .before .before .before .before .before .before .before .args .out .now) refl) ∙ z)) in rw q (rw (c .before .before .batch-refusal .ensures (c .before .before .before .before .before .before .before .before .before .before .args .out .now) refl) at (c .refused .ensures (c .before .before .before .before .before .before .before .before .before .before .args .out .now)), refl)
+    let if1 = c .before .if1 in
+    let batch-refusal = c .before .before .batch-refusal in
+    let c₁ = c .before .before .before .before .before .before .before .before in
+    let args = c₁ .before .before .args in
+    let is = (batch-refusal .ensures (args .out .now) refl) in
+    rw (ne-eqb _ _ (λ z. if1 .taken (is ∙ z))) (rw is at (c .refused .ensures (args .out .now)), refl)
 
 trigger-events-requires : tie.Need-trigger-events-requires
 trigger-events-requires c κs =
-    batch-passes _ _ _ _ (sym (c .before .batch-refusal .ensures (c .before .before .before .before .before .before .before .before .before .args .out .now) refl) ∙ c .if1 .left) .0
+    let batch-refusal = c .before .batch-refusal in
+    let c₁ = c .before .before .before .before .before .before .before .before in
+    let args = c₁ .before .args in
+    batch-passes _ _ _ _ (sym (batch-refusal .ensures (args .out .now) refl) ∙ c .if1 .left) .0
 
 enum-known-verdict : tie.Need-enum-known-verdict
 enum-known-verdict c = search needs
@@ -35,15 +43,30 @@ enum-told c = search needs
 
 accepted-requires : tie.Need-accepted-requires
 accepted-requires c κs =
-    rw (c .before .before .before .trigger-events .ensures .1) (batch-passes _ _ _ _ (sym (c .before .before .before .before .before .batch-refusal .ensures (c .before .before .before .before .before .before .before .before .before .before .before .before .before .args .out .now) refl) ∙ c .before .before .before .before .if1 .left) .1)
+    let trigger-events = c .before .before .before .trigger-events in
+    let if1 = c .before .before .before .before .if1 in
+    let batch-refusal = c .before .before .before .before .before .batch-refusal in
+    let c₁ = c .before .before .before .before .before .before .before .before in
+    let args = c₁ .before .before .before .before .before .args in
+    let none = sym (batch-refusal .ensures (args .out .now) refl) ∙ if1 .left in
+    rw (trigger-events .ensures .1) (batch-passes _ _ _ _ none .1)
 
 returns-2 : tie.Need-returns-2
 unfolding batch
 returns-2 c =
-    let a = c .before .before .before .before .before .before .before .before .before .before .before .before .before .before .args in let es = a .events .now in
-    let T = tables (a .machines .now) (a .states .now) (a .transitions .now) in let D = tapes (a .chances .now) (a .values .now) in
-    let q = stopped-is (entered (a .fw)) (triggerEvents T D (a .time) es (a .fw)) _ _ (c .before .before .before .before .trigger-events .ensures .0) (c .before .before .verdict .given .1) in
-    rw (eq-eqb _ _ (sym (c .before .before .before .before .before .before .batch-refusal .ensures (c .before .before .before .before .before .before .before .before .before .before .before .before .before .before .args .out .now) refl) ∙ c .before .before .before .before .before .if1 .left), q) (c .refused2 .ensures (a .out .now), refl)
+    let verdict = c .before .before .verdict in
+    let trigger-events = c .before .before .before .before .trigger-events in
+    let if1 = c .before .before .before .before .before .if1 in
+    let batch-refusal = c .before .before .before .before .before .before .batch-refusal in
+    let c₁ = c .before .before .before .before .before .before .before .before in
+    let args = c₁ .before .before .before .before .before .before .args in
+    let T = tables (args .machines .now) (args .states .now) (args .transitions .now) in
+    let D = tapes (args .chances .now) (args .values .now) in
+    let es = args .events .now in
+    let stops = stopped-is (entered (args .fw)) (triggerEvents T D (args .time) es (args .fw)) _ _
+    (trigger-events .ensures .0) (verdict .given .1) in
+    let none = sym (batch-refusal .ensures (args .out .now) refl) ∙ if1 .left in
+    rw (eq-eqb _ _ none, stops) (c .refused2 .ensures (args .out .now), refl)
 
 same-length : tie.Need-same-length
 same-length c = search needs
@@ -51,10 +74,21 @@ same-length c = search needs
 returns-3 : tie.Need-returns-3
 unfolding batch
 returns-3 c =
-    let a = c .before .before .before .before .before .before .before .before .before .before .before .before .before .before .before .before .args in let es = a .events .now in
-    let T = tables (a .machines .now) (a .states .now) (a .transitions .now) in let D = tapes (a .chances .now) (a .values .now) in
-    let q = complete-is (entered (a .fw)) (triggerEvents T D (a .time) es (a .fw)) _ (c .before .before .before .before .before .before .trigger-events .ensures .0) (c .before .before .before .before .enum-told .given .1) in
-    rw (eq-eqb _ _ (sym (c .before .before .before .before .before .before .before .before .batch-refusal .ensures (c .before .before .before .before .before .before .before .before .before .before .before .before .before .before .before .before .args .out .now) refl) ∙ c .before .before .before .before .before .before .before .if1 .left), q) (c .before .before .accepted .ensures)
+    let accepted = c .before .before .accepted in
+    let enum-told = c .before .before .before .before .enum-told in
+    let trigger-events = c .before .before .before .before .before .before .trigger-events in
+    let if1 = c .before .before .before .before .before .before .before .if1 in
+    let c₁ = c .before .before .before .before .before .before .before .before in
+    let batch-refusal = c₁ .batch-refusal in
+    let c₂ = c₁ .before .before .before .before .before .before .before .before in
+    let args = c₂ .args in
+    let T = tables (args .machines .now) (args .states .now) (args .transitions .now) in
+    let D = tapes (args .chances .now) (args .values .now) in
+    let es = args .events .now in
+    let ends = complete-is (entered (args .fw)) (triggerEvents T D (args .time) es (args .fw)) _
+    (trigger-events .ensures .0) (enum-told .given .1) in
+    let none = sym (batch-refusal .ensures (args .out .now) refl) ∙ if1 .left in
+    rw (eq-eqb _ _ none, ends) (accepted .ensures)
 
 pub batch-spec : {M : Type 1} → statement M
 batch-spec =

@@ -14,7 +14,8 @@ check-tables-requires c κs = search needs
 returns : tie.Need-returns
 unfolding batchRefusal
 returns c =
-    λ out e. c .before .check-tables .ensures ∙ sym (first-is _ _ (λ z. c .if1 .taken (c .before .check-tables .ensures ∙ z)))
+    λ out e. c .before .check-tables .ensures
+    ∙ sym (first-is _ _ (λ z. c .if1 .taken (c .before .check-tables .ensures ∙ z)))
 
 fits-tables-requires : tie.Need-fits-tables-requires
 fits-tables-requires c κs = few-machines _ _ _ (sym (c .before .check-tables .ensures) ∙ c .if1 .left)
@@ -28,26 +29,62 @@ mul-if4 c = search needs
 returns-2 : tie.Need-returns-2
 unfolding batchRefusal
 returns-2 c =
+    let if3 = c .before .if3 in
+    let events-fit = c .before .before .events-fit in
+    let if2 = c .before .before .before .if2 in
+    let fits-tables = c .before .before .before .before .fits-tables in
+    let if1 = c .before .before .before .before .before .if1 in
+    let check-tables = c .before .before .before .before .before .before .check-tables in
+    let c₁ = c .before .before .before .before .before .before .before .before in
+    let args = c₁ .before .before .before .args in
     λ out e.
-    rw (then-is _ _ (sym (c .before .before .before .before .before .before .check-tables .ensures) ∙ c .before .before .before .before .before .if1 .left), sym (c .before .before .before .before .fits-tables .ensures (c .before .before .before .before .before .before .before .before .before .before .before .args .states .now) (c .before .before .before .before .before .before .before .before .before .before .before .args .transitions .now)) ∙ c .before .before .before .if2 .taken, sym (c .before .before .events-fit .ensures) ∙ c .before .if3 .taken, e, lt-ltb _ _ (c .if4 .taken)) refl
+    let tables = sym (check-tables .ensures) ∙ if1 .left in
+    let fits = sym (fits-tables .ensures (args .states .now) (args .transitions .now)) ∙ if2 .taken in
+    rw (then-is _ _ tables, fits, sym (events-fit .ensures) ∙ if3 .taken, e, lt-ltb _ _ (c .if4 .taken)) refl
 
 returns-3 : tie.Need-returns-3
 unfolding batchRefusal
 returns-3 c =
+    let if3 = c .before .if3 in
+    let events-fit = c .before .before .events-fit in
+    let if2 = c .before .before .before .if2 in
+    let fits-tables = c .before .before .before .before .fits-tables in
+    let if1 = c .before .before .before .before .before .if1 in
+    let check-tables = c .before .before .before .before .before .before .check-tables in
+    let c₁ = c .before .before .before .before .before .before .before .before in
+    let args = c₁ .before .before .before .args in
     λ out e.
-    rw (then-is _ _ (sym (c .before .before .before .before .before .before .check-tables .ensures) ∙ c .before .before .before .before .before .if1 .left), sym (c .before .before .before .before .fits-tables .ensures (c .before .before .before .before .before .before .before .before .before .before .before .args .states .now) (c .before .before .before .before .before .before .before .before .before .before .before .args .transitions .now)) ∙ c .before .before .before .if2 .taken, sym (c .before .before .events-fit .ensures) ∙ c .before .if3 .taken, e, le-ltb _ _ (c .if4 .left)) refl
+    let tables = sym (check-tables .ensures) ∙ if1 .left in
+    let fits = sym (fits-tables .ensures (args .states .now) (args .transitions .now)) ∙ if2 .taken in
+    rw (then-is _ _ tables, fits, sym (events-fit .ensures) ∙ if3 .taken, e, le-ltb _ _ (c .if4 .left)) refl
 
 returns-4 : tie.Need-returns-4
 unfolding batchRefusal
 returns-4 c =
+    let events-fit = c .before .events-fit in
+    let if2 = c .before .before .if2 in
+    let fits-tables = c .before .before .before .fits-tables in
+    let if1 = c .before .before .before .before .if1 in
+    let check-tables = c .before .before .before .before .before .check-tables in
+    let c₁ = c .before .before .before .before .before .before .before .before in
+    let args = c₁ .before .before .args in
     λ out e.
-    rw (then-is _ _ (sym (c .before .before .before .before .before .check-tables .ensures) ∙ c .before .before .before .before .if1 .left), sym (c .before .before .before .fits-tables .ensures (c .before .before .before .before .before .before .before .before .before .before .args .states .now) (c .before .before .before .before .before .before .before .before .before .before .args .transitions .now)) ∙ c .before .before .if2 .taken, sym (c .before .events-fit .ensures) ∙ c .if3 .left) refl
+    let tables = sym (check-tables .ensures) ∙ if1 .left in
+    let fits = sym (fits-tables .ensures (args .states .now) (args .transitions .now)) ∙ if2 .taken in
+    rw (then-is _ _ tables, fits, sym (events-fit .ensures) ∙ c .if3 .left) refl
 
 returns-5 : tie.Need-returns-5
 unfolding batchRefusal
 returns-5 c =
+    let fits-tables = c .before .fits-tables in
+    let if1 = c .before .before .if1 in
+    let check-tables = c .before .before .before .check-tables in
+    let c₁ = c .before .before .before .before .before .before .before .before in
+    let args = c₁ .args in
     λ out e.
-    rw (then-is _ _ (sym (c .before .before .before .check-tables .ensures) ∙ c .before .before .if1 .left), sym (c .before .fits-tables .ensures (c .before .before .before .before .before .before .before .before .args .states .now) (c .before .before .before .before .before .before .before .before .args .transitions .now)) ∙ c .if2 .left) refl
+    let tables = sym (check-tables .ensures) ∙ if1 .left in
+    let fits = sym (fits-tables .ensures (args .states .now) (args .transitions .now)) ∙ c .if2 .left in
+    rw (then-is _ _ tables, fits) refl
 
 pub batch-refusal-spec : {M : Type 1} → statement M
 batch-refusal-spec =

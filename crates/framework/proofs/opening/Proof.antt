@@ -2,6 +2,7 @@
 use borrow.Author.Needs.{needs}
 use mathlib.Core.Path.{_≡_, refl, sym, _∙_}
 use borrow.Author.Tests.{eq-eqb, ne-eqb}
+use Rattle.tables.specs.Framework.{fractionsRefusal}
 use Rattle.steps.specs.Framework.{opening}
 use Rattle.framework.proofs.Checked.{first-is, then-is, few-machines}
 use Rattle.framework.proofs.opening.Statement.{statement}
@@ -16,7 +17,12 @@ unopened-requires c κs = search needs
 returns : tie.Need-returns
 unfolding opening
 returns c =
-    rw (first-is _ _ (λ z. c .before .if1 .taken (c .before .before .check-fractions .ensures ∙ z)), ne-eqb _ _ (λ z. c .before .if1 .taken (c .before .before .check-fractions .ensures ∙ z))) (rw (c .before .before .check-fractions .ensures) at (c .unopened .ensures))
+    let if1 = c .before .if1 in
+    let check-fractions = c .before .before .check-fractions in
+    let args = c .before .before .before .before .before .before .before .args in
+    let refused : fractionsRefusal (args .max-padding-frac) (args .max-blocking-frac) ≡ 0 → ⊥ =
+    λ z. if1 .taken (check-fractions .ensures ∙ z) in
+    rw (first-is _ _ refused, ne-eqb _ _ refused) (rw (check-fractions .ensures) at (c .unopened .ensures))
 
 check-tables-requires : tie.Need-check-tables-requires
 check-tables-requires c κs = search needs
@@ -27,7 +33,13 @@ unopened-requires-2 c κs = search needs
 returns-2 : tie.Need-returns-2
 unfolding opening
 returns-2 c =
-    rw (then-is _ _ (sym (c .before .before .before .before .check-fractions .ensures) ∙ c .before .before .before .if1 .left), ne-eqb _ _ (λ z. c .before .if2 .taken (c .before .before .check-tables .ensures ∙ z))) (rw (c .before .before .check-tables .ensures) at (c .unopened2 .ensures))
+    let if2 = c .before .if2 in
+    let check-tables = c .before .before .check-tables in
+    let if1 = c .before .before .before .if1 in
+    let check-fractions = c .before .before .before .before .check-fractions in
+    let passed = (sym (check-fractions .ensures) ∙ if1 .left) in
+    rw (then-is _ _ passed, ne-eqb _ _ (λ z. if2 .taken (check-tables .ensures ∙ z)))
+    (rw (check-tables .ensures) at (c .unopened2 .ensures))
 
 open-machines-requires : tie.Need-open-machines-requires
 open-machines-requires c κs = few-machines _ _ _ (sym (c .before .check-tables .ensures) ∙ c .if2 .left)
@@ -35,7 +47,15 @@ open-machines-requires c κs = few-machines _ _ _ (sym (c .before .check-tables 
 returns-3 : tie.Need-returns-3
 unfolding opening
 returns-3 c =
-    rw (then-is _ _ (sym (c .before .before .before .before .check-fractions .ensures) ∙ c .before .before .before .if1 .left), eq-eqb _ _ (sym (c .before .before .check-tables .ensures) ∙ c .before .if2 .left)) (c .open-machines .ensures (c .before .before .before .before .before .before .before .before .before .args .transitions .now))
+    let if2 = c .before .if2 in
+    let check-tables = c .before .before .check-tables in
+    let if1 = c .before .before .before .if1 in
+    let check-fractions = c .before .before .before .before .check-fractions in
+    let c₁ = c .before .before .before .before .before .before .before .before in
+    let args = c₁ .before .args in
+    let passed = (sym (check-fractions .ensures) ∙ if1 .left) in
+    rw (then-is _ _ passed, eq-eqb _ _ (sym (check-tables .ensures) ∙ if2 .left))
+    (c .open-machines .ensures (args .transitions .now))
 
 pub opening-spec : {M : Type 1} → statement M
 opening-spec =

@@ -1,13 +1,14 @@
--- `trigger_events` meets its contract: a stop among the events is a stop of the whole, and with no signal pending they are all of it.
+-- `trigger_events` meets its contract: a stop among the events is a stop of the whole, and with no signal pending
+-- they are all of it.
 use borrow.Author.Needs.{needs}
-use Prim.Native.Nat.{ℕ, _/_}
 use mathlib.Core.Path.{_≡_, refl, sym, ap, _∙_}
-use lib.ListN.{length}
 use borrow.Author.Tests.{eq-eqb}
+use Prim.Native.Nat.{_/_}
+use lib.ListN.{length}
 use Rattle.steps.specs.Events.{each, eventTurn, signals}
 use Rattle.steps.specs.Framework.{begin, triggerEvents}
-use Rattle.steps.specs.declared.Ran.{Ran}
 use Rattle.framework.specs.Run.{tables, tapes, runOf, entered}
+use Rattle.steps.specs.declared.Ran.{Ran}
 use Rattle.framework.proofs.Outcomes.{stopped-is, complete-is}
 use Rattle.framework.proofs.trigger_events.Statement.{statement}
 use Rattle.framework.proofs.trigger_events.Tie as tie
@@ -21,10 +22,16 @@ enum-told c = search needs
 returns : tie.Need-returns
 unfolding triggerEvents
 returns c =
-    let a = c .before .before .before .before .before .before .before .before .before .args in let es = a .events .now in
-    let T = tables (a .machines .now) (a .states .now) (a .transitions .now) in let D = tapes (a .chances .now) (a .values .now) in
-    let e = stopped-is (entered (a .fw)) (each (eventTurn T D es) (length es / 2) 0 (begin (a .fw) (a .time))) _ _ (c .before .before .run-events .ensures .0) (c .enum-told .given .1) in
-    (rw e (rw e at (c .before .before .run-events .ensures .0)), c .before .before .run-events .ensures .1)
+    let run-events = c .before .before .run-events in
+    let c₁ = c .before .before .before .before .before .before .before .before in
+    let args = c₁ .before .args in
+    let T = tables (args .machines .now) (args .states .now) (args .transitions .now) in
+    let D = tapes (args .chances .now) (args .values .now) in
+    let es = args .events .now in
+    let ran = each (eventTurn T D es) (length es / 2) 0 (begin (args .fw) (args .time)) in
+    let stops = stopped-is (entered (args .fw)) ran _ _
+    (run-events .ensures .0) (c .enum-told .given .1) in
+    (rw stops (rw stops at (run-events .ensures .0)), run-events .ensures .1)
 
 enum-told-2 : tie.Need-enum-told-2
 enum-told-2 c = search needs
@@ -32,10 +39,17 @@ enum-told-2 c = search needs
 returns-2 : tie.Need-returns-2
 unfolding triggerEvents signals
 returns-2 c =
-    let a = c .before .before .before .before .before .before .before .before .before .before .before .before .args in let es = a .events .now in
-    let T = tables (a .machines .now) (a .states .now) (a .transitions .now) in let D = tapes (a .chances .now) (a .values .now) in
-    let e = complete-is (entered (a .fw)) (each (eventTurn T D es) (length es / 2) 0 (begin (a .fw) (a .time))) _ (c .before .before .before .before .before .run-events .ensures .0) (c .before .before .before .enum-told2 .given .1) in
-    (rw (e, eq-eqb _ _ (c .if1 .taken)) (rw e at (c .before .before .before .before .before .run-events .ensures .0)), c .before .before .before .before .before .run-events .ensures .1)
+    let enum-told2 = c .before .before .before .enum-told2 in
+    let run-events = c .before .before .before .before .before .run-events in
+    let c₁ = c .before .before .before .before .before .before .before .before in
+    let args = c₁ .before .before .before .before .args in
+    let T = tables (args .machines .now) (args .states .now) (args .transitions .now) in
+    let D = tapes (args .chances .now) (args .values .now) in
+    let es = args .events .now in
+    let ran = each (eventTurn T D es) (length es / 2) 0 (begin (args .fw) (args .time)) in
+    let ends = complete-is (entered (args .fw)) ran _
+    (run-events .ensures .0) (enum-told2 .given .1) in
+    (rw (ends, eq-eqb _ _ (c .if1 .taken)) (rw ends at (run-events .ensures .0)), run-events .ensures .1)
 
 run-signals-requires : tie.Need-run-signals-requires
 run-signals-requires c κs = search needs
@@ -52,18 +66,41 @@ enum-told-3 c = search needs
 returns-3 : tie.Need-returns-3
 unfolding triggerEvents
 returns-3 c =
-    let a = c .before .before .before .before .before .before .before .before .before .before .before .before .before .before .before .before .before .before .before .args in let es = a .events .now in
-    let T = tables (a .machines .now) (a .states .now) (a .transitions .now) in let D = tapes (a .chances .now) (a .values .now) in
-    let e = complete-is (entered (a .fw)) (each (eventTurn T D es) (length es / 2) 0 (begin (a .fw) (a .time))) _ (c .before .before .before .before .before .before .before .before .before .before .before .before .run-events .ensures .0) (c .before .before .before .before .before .before .before .before .before .before .enum-told2 .given .1) in let q = stopped-is (runOf (c .before .before .before .before .before .before .before .before .before .before .before .before .run-events .result)) (signals T D (runOf (c .before .before .before .before .before .before .before .before .before .before .before .before .run-events .result))) _ _ (c .before .before .before .before .run-signals .ensures .0) (c .before .before .last .given .1) in
-    (rw (e, q) (c .stopped .ensures), ap (λ (r : Ran). r .framework .machines) (c .stopped .ensures))
+    let last = c .before .before .last in
+    let run-signals = c .before .before .before .before .run-signals in
+    let c₁ = c .before .before .before .before .before .before .before .before in
+    let enum-told2 = c₁ .before .before .enum-told2 in
+    let run-events = c₁ .before .before .before .before .run-events in
+    let c₂ = c₁ .before .before .before .before .before .before .before .before in
+    let args = c₂ .before .before .before .args in
+    let T = tables (args .machines .now) (args .states .now) (args .transitions .now) in
+    let D = tapes (args .chances .now) (args .values .now) in
+    let es = args .events .now in
+    let ran = each (eventTurn T D es) (length es / 2) 0 (begin (args .fw) (args .time)) in
+    let ends = complete-is (entered (args .fw)) ran _
+    (run-events .ensures .0) (enum-told2 .given .1) in
+    let stops = stopped-is (runOf (run-events .result)) (signals T D (runOf (run-events .result))) _ _
+    (run-signals .ensures .0) (last .given .1) in
+    (rw (ends, stops) (c .stopped .ensures), ap (λ (r : Ran). r .framework .machines) (c .stopped .ensures))
 
 returns-4 : tie.Need-returns-4
 unfolding triggerEvents
 returns-4 c =
-    let a = c .before .before .before .before .before .before .before .before .before .before .before .before .before .before .before .before .before .args in let es = a .events .now in
-    let T = tables (a .machines .now) (a .states .now) (a .transitions .now) in let D = tapes (a .chances .now) (a .values .now) in
-    let e = complete-is (entered (a .fw)) (each (eventTurn T D es) (length es / 2) 0 (begin (a .fw) (a .time))) _ (c .before .before .before .before .before .before .before .before .before .before .run-events .ensures .0) (c .before .before .before .before .before .before .before .before .enum-told2 .given .1) in let q = complete-is (runOf (c .before .before .before .before .before .before .before .before .before .before .run-events .result)) (signals T D (runOf (c .before .before .before .before .before .before .before .before .before .before .run-events .result))) _ (c .before .before .run-signals .ensures .0) (c .enum-told3 .given .1) in
-    (rw (e, q) (rw q at (c .before .before .run-signals .ensures .0)), c .before .before .run-signals .ensures .1 ∙ c .before .before .before .before .before .before .before .before .before .before .run-events .ensures .1)
+    let run-signals = c .before .before .run-signals in
+    let c₁ = c .before .before .before .before .before .before .before .before in
+    let enum-told2 = c₁ .enum-told2 in
+    let run-events = c₁ .before .before .run-events in
+    let c₂ = c₁ .before .before .before .before .before .before .before .before in
+    let args = c₂ .before .args in
+    let T = tables (args .machines .now) (args .states .now) (args .transitions .now) in
+    let D = tapes (args .chances .now) (args .values .now) in
+    let es = args .events .now in
+    let ran = each (eventTurn T D es) (length es / 2) 0 (begin (args .fw) (args .time)) in
+    let ends = complete-is (entered (args .fw)) ran _
+    (run-events .ensures .0) (enum-told2 .given .1) in
+    let done = complete-is (runOf (run-events .result)) (signals T D (runOf (run-events .result))) _
+    (run-signals .ensures .0) (c .enum-told3 .given .1) in
+    (rw (ends, done) (rw done at (run-signals .ensures .0)), run-signals .ensures .1 ∙ run-events .ensures .1)
 
 pub trigger-events-spec : {M : Type 1} → statement M
 trigger-events-spec =

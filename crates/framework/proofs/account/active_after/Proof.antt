@@ -15,12 +15,16 @@ returns-2 c = rw (eq-eqb _ _ (c .before .if1 .taken), ne-eqb _ _ (c .if2 .left))
 returns-3 : tie.Need-returns-3
 unfolding activeAfter
 returns-3 c =
-    rw (ne-eqb _ _ (c .before .before .if1 .left), eq-eqb _ _ (c .before .if3 .taken), eq-eqb _ _ (c .if4 .taken))
+    let if3 = c .before .if3 in
+    let if1 = c .before .before .if1 in
+    rw (ne-eqb _ _ (if1 .left), eq-eqb _ _ (if3 .taken), eq-eqb _ _ (c .if4 .taken))
 
 returns-4 : tie.Need-returns-4
 unfolding activeAfter
 returns-4 c =
-    rw (ne-eqb _ _ (c .before .before .if1 .left), eq-eqb _ _ (c .before .if3 .taken), ne-eqb _ _ (c .if4 .left))
+    let if3 = c .before .if3 in
+    let if1 = c .before .before .if1 in
+    rw (ne-eqb _ _ (if1 .left), eq-eqb _ _ (if3 .taken), ne-eqb _ _ (c .if4 .left))
 
 returns-5 : tie.Need-returns-5
 unfolding activeAfter

@@ -30,7 +30,18 @@ f64-of-word-requires-2 c κs = search needs
 
 returns : tie.Need-returns
 returns c =
-    rw (c .before .before .before .before .word .ensures, c .before .before .f64-of-word .ensures, c .before .before .before .word2 .ensures, c .f64-of-word2 .ensures, c .before .word3 .ensures, add-zero)
+    let word3 = c .before .word3 in
+    let f64-of-word = c .before .before .f64-of-word in
+    let word2 = c .before .before .before .word2 in
+    let word = c .before .before .before .before .word in
+    rw (
+      word .ensures,
+      f64-of-word .ensures,
+      word2 .ensures,
+      c .f64-of-word2 .ensures,
+      word3 .ensures,
+      add-zero,
+    )
 
 pub context-from-spec : {M : Type 1} → statement M
 context-from-spec =

@@ -15,7 +15,9 @@ saturating-add-requires c κs = search needs
 returns-2 : tie.Need-returns-2
 unfolding durationAfter
 returns-2 c =
-    rw (eq-eqb _ _ (c .before .before .if1 .taken), ne-eqb _ _ (c .before .if2 .left)) (c .saturating-add .ensures)
+    let if2 = c .before .if2 in
+    let if1 = c .before .before .if1 in
+    rw (eq-eqb _ _ (if1 .taken), ne-eqb _ _ (if2 .left)) (c .saturating-add .ensures)
 
 returns-3 : tie.Need-returns-3
 unfolding durationAfter

@@ -27,7 +27,11 @@ count-of-requires c κs =
 returns-3 : tie.Need-returns-3
 unfolding idleAt
 returns-3 c =
-    rw (c .before .before .before .before .if1 .left, ne-eqb _ _ (c .before .before .before .if2 .left), c .count-of .ensures, c .before .before .state-row .ensures, c .before .event-of .ensures)
+    let event-of = c .before .event-of in
+    let state-row = c .before .before .state-row in
+    let if2 = c .before .before .before .if2 in
+    let if1 = c .before .before .before .before .if1 in
+    rw (if1 .left, ne-eqb _ _ (if2 .left), c .count-of .ensures, state-row .ensures, event-of .ensures)
 
 pub idle-spec : {M : Type 1} → statement M
 idle-spec =

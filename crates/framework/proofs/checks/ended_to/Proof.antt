@@ -14,13 +14,17 @@ use Rattle.framework.proofs.All.{all-more, all-fails}
 use Rattle.framework.proofs.checks.ended_to.Statement.{statement}
 use Rattle.framework.proofs.checks.ended_to.Tie as tie
 
-more : (fw : Framework) (m : ℕ) → endedTo fw m ≡ true → runtimeAt fw m .«current_state» ≡ stateEnd → endedTo fw (m + 1) ≡ true
-unfolding endedTo
-more fw m e h = all-more (endedTo fw) (λ (n : ℕ). eqb (runtimeAt fw n .«current_state») stateEnd) (λ n. refl) m e (eq-eqb _ _ h)
+module _ (fw : Framework) where
+  abbrev ended : ℕ → Bool
+  ended n = eqb (runtimeAt fw n .«current_state») stateEnd
 
-fails : (fw : Framework) (m n : ℕ) → m < n → endedTo fw m ≡ true → (runtimeAt fw m .«current_state» ≡ stateEnd → ⊥) → endedTo fw n ≡ false
-unfolding endedTo
-fails fw m n l e h = all-fails (endedTo fw) (λ (n : ℕ). eqb (runtimeAt fw n .«current_state») stateEnd) (λ n. refl) m n l e (ne-eqb _ _ h)
+  more : (m : ℕ) → endedTo fw m ≡ true → ended m ≡ true → endedTo fw (m + 1) ≡ true
+  unfolding endedTo
+  more = all-more (endedTo fw) ended (λ n. refl)
+
+  fails : (m n : ℕ) → m < n → endedTo fw m ≡ true → ended m ≡ false → endedTo fw n ≡ false
+  unfolding endedTo
+  fails = all-fails (endedTo fw) ended (λ n. refl)
 
 abbrev Inv-loop : tie.InvT-loop
 Inv-loop count fw m₀ m = (m ≤ count) × (endedTo fw m ≡ true)
@@ -40,7 +44,9 @@ element-copy-out-r c = search needs
 
 returns : tie.Need-returns Inv-loop μ-loop
 returns c =
-    sym (fails (c .before .before .before .before .before .args .t1) (c .before .before .before .before .loop .m) (c .before .before .before .before .before .args .count) (c .before .before .before .loop-test .taken) (c .before .before .before .before .loop .inv .1) (c .if1 .taken))
+    let loop-test = c .before .before .before .loop-test in
+    let loop = c .before .before .before .before .loop in
+    sym (fails _ _ _ (loop-test .taken) (loop .inv .1) (ne-eqb _ _ (c .if1 .taken)))
 
 add-m : tie.Need-add-m Inv-loop μ-loop
 add-m c = search needs
@@ -50,11 +56,14 @@ loop-less c = search needs
 
 loop-again : tie.Need-loop-again Inv-loop μ-loop
 loop-again c =
-    (omega (arith, c .before .before .before .loop-test .taken), more (c .before .before .before .before .before .args .t1) (c .before .before .before .before .loop .m) (c .before .before .before .before .loop .inv .1) (c .if1 .left))
+    let loop-test = c .before .before .before .loop-test in
+    let loop = c .before .before .before .before .loop in
+    (omega (arith, loop-test .taken), more _ _ (loop .inv .1) (eq-eqb _ _ (c .if1 .left)))
 
 returns-2 : tie.Need-returns-2 Inv-loop μ-loop
 returns-2 c =
-    let e : c .before .loop .m ≡ c .before .before .args .count = omega arith in sym (rw e at (c .before .loop .inv .1))
+    let e : c .before .loop .m ≡ c .before .before .args .count = omega arith in
+    sym (rw e at (c .before .loop .inv .1))
 
 pub ended-to-spec : {M : Type 1} → statement M
 ended-to-spec =

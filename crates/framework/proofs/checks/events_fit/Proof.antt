@@ -49,7 +49,10 @@ shared-slice-read-if2 c = search needs
 returns-2 : tie.Need-returns-2 Inv-loop μ-loop
 unfolding eventsFit
 returns-2 c =
-    rw (eq-eqb _ _ (c .before .before .before .before .if1 .left)) (sym (fails (c .before .before .before .before .before .args .events .now) (c .before .before .before .loop .i) _ (c .before .before .loop-test .taken) (c .before .before .before .loop .inv .1) (lt-leb _ _ (c .if2 .taken))))
+    let loop-test = c .before .before .loop-test in
+    let loop = c .before .before .before .loop in
+    let if1 = c .before .before .before .before .if1 in
+    rw (eq-eqb _ _ (if1 .left)) (sym (fails _ _ _ (loop-test .taken) (loop .inv .1) (lt-leb _ _ (c .if2 .taken))))
 
 add-i : tie.Need-add-i Inv-loop μ-loop
 add-i c = omega (arith, c .before .before .loop-test .taken)
@@ -59,12 +62,18 @@ loop-less c = search needs
 
 loop-again : tie.Need-loop-again Inv-loop μ-loop
 loop-again c =
-    (omega (arith, c .before .before .loop-test .taken), more (c .before .before .before .before .before .args .events .now) (c .before .before .before .loop .i) (c .before .before .before .loop .inv .1) (le-leb _ _ (c .if2 .left)))
+    let loop-test = c .before .before .loop-test in
+    let loop = c .before .before .before .loop in
+    (omega (arith, loop-test .taken), more _ _ (loop .inv .1) (le-leb _ _ (c .if2 .left)))
 
 returns-3 : tie.Need-returns-3 Inv-loop μ-loop
 unfolding eventsFit
 returns-3 c =
-    rw (eq-eqb _ _ (c .before .before .if1 .left)) (let e : c .before .loop .i ≡ length (c .before .before .before .args .events .now) / 2 = omega arith in sym (rw e at (c .before .loop .inv .1)))
+    let loop = c .before .loop in
+    let if1 = c .before .before .if1 in
+    let args = c .before .before .before .args in
+    let e : loop .i ≡ length (args .events .now) / 2 = omega arith in
+    rw (eq-eqb _ _ (if1 .left)) (sym (rw e at (loop .inv .1)))
 
 pub events-fit-spec : {M : Type 1} → statement M
 events-fit-spec =

@@ -16,12 +16,19 @@ add-result c = search needs
 returns : tie.Need-returns
 unfolding fitsTables
 returns c =
-    λ states transitions. rw (eq-eqb _ _ (c .before .before .before .if1 .taken), sym (c .before .before .states-fit .ensures states transitions) ∙ c .before .if2 .taken)
+    let if2 = c .before .if2 in
+    let states-fit = c .before .before .states-fit in
+    let if1 = c .before .before .before .if1 in
+    λ states transitions.
+    rw (eq-eqb _ _ (if1 .taken), sym (states-fit .ensures states transitions) ∙ if2 .taken)
 
 returns-2 : tie.Need-returns-2
 unfolding fitsTables
 returns-2 c =
-    λ states transitions. rw (eq-eqb _ _ (c .before .before .if1 .taken), sym (c .before .states-fit .ensures states transitions) ∙ c .if2 .left)
+    let states-fit = c .before .states-fit in
+    let if1 = c .before .before .if1 in
+    λ states transitions.
+    rw (eq-eqb _ _ (if1 .taken), sym (states-fit .ensures states transitions) ∙ c .if2 .left)
 
 returns-3 : tie.Need-returns-3
 unfolding fitsTables

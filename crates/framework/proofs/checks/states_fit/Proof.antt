@@ -18,7 +18,9 @@ use Rattle.framework.proofs.checks.states_fit.Tie as tie
 
 module _ (T : Tables) (fw : Framework) where
   abbrev fit : ℕ → Bool
-  fit n = eqb (runtimeAt fw n .«current_state») stateEnd || ltb (runtimeAt fw n .«current_state») (machineWord (T .machines) n numStates)
+  fit n =
+      eqb (runtimeAt fw n .«current_state») stateEnd
+      || ltb (runtimeAt fw n .«current_state») (machineWord (T .machines) n numStates)
 
   more : (m : ℕ) → statesFit T fw m ≡ true → fit m ≡ true → statesFit T fw (m + 1) ≡ true
   unfolding statesFit
@@ -64,20 +66,31 @@ loop-less : tie.Need-loop-less Inv-loop μ-loop
 loop-less c = search needs
 
 loop-again : tie.Need-loop-again Inv-loop μ-loop
-loop-again c = (
-  omega (arith, c .before .before .before .before .loop-test .taken),
-  λ states transitions. more (tables (c .before .before .before .before .before .before .before .args .machines .now) states transitions) (c .before .before .before .before .before .before .before .args .t1) (c .before .before .before .before .before .loop .m) (c .before .before .before .before .before .loop .inv .1 states transitions)
-      (sym (rw (c .before .before .word .ensures) at (c .before .state-fits .ensures)) ∙ c .if1 .taken),
-)
+loop-again c =
+    let state-fits = c .before .state-fits in
+    let word = c .before .before .word in
+    let loop-test = c .before .before .before .before .loop-test in
+    let loop = c .before .before .before .before .before .loop in (
+      omega (arith, loop-test .taken),
+      λ states transitions.
+          more _ _ _ (loop .inv .1 states transitions) (sym (rw (word .ensures) at (state-fits .ensures)) ∙ c .if1 .taken),
+    )
 
 returns : tie.Need-returns Inv-loop μ-loop
 returns c =
-    λ states transitions. sym (fails (tables (c .before .before .before .before .before .before .before .args .machines .now) states transitions) (c .before .before .before .before .before .before .before .args .t1) (c .before .before .before .before .before .loop .m) (c .before .before .before .before .before .before .before .args .count) (c .before .before .before .before .loop-test .taken) (c .before .before .before .before .before .loop .inv .1 states transitions)
-    (sym (rw (c .before .before .word .ensures) at (c .before .state-fits .ensures)) ∙ c .if1 .left))
+    let state-fits = c .before .state-fits in
+    let word = c .before .before .word in
+    let loop-test = c .before .before .before .before .loop-test in
+    let loop = c .before .before .before .before .before .loop in
+    λ states transitions.
+    sym (fails _ _ _ _ (loop-test .taken) (loop .inv .1 states transitions)
+    (sym (rw (word .ensures) at (state-fits .ensures)) ∙ c .if1 .left))
 
 returns-2 : tie.Need-returns-2 Inv-loop μ-loop
 returns-2 c =
-    λ states transitions. let e : c .before .loop .m ≡ c .before .before .before .args .count = omega arith in sym (rw e at (c .before .loop .inv .1 states transitions))
+    λ states transitions.
+    let e : c .before .loop .m ≡ c .before .before .before .args .count = omega arith in
+    sym (rw e at (c .before .loop .inv .1 states transitions))
 
 pub states-fit-spec : {M : Type 1} → statement M
 states-fit-spec =

@@ -1,5 +1,6 @@
--- `run_events` meets its contract. The loop's invariant: the whole run is what is ahead, namely the machines from m to `end` of the
--- event taken last, then the events from i on. The measure counts 17 for each event left, and the machines left.
+-- `run_events` meets its contract. The loop's invariant: the whole run is what is ahead, namely the machines from m to
+-- `end` of the event taken last, then the events from i on. The measure counts 17 for each event left, and the machines
+-- left.
 use borrow.Author.Needs.{needs}
 use Prim.Native.Nat.{ℕ, _+_, _*_, _-_, _/_, _≤_, _<_}
 use mathlib.Core.Path.{_≡_, refl, sym, ap, _∙_}
@@ -8,17 +9,18 @@ use lib.ListN.{length}
 use Rattle.steps.specs.Events.{each, eventTurn}
 use Rattle.steps.specs.Framework.{begin}
 use Rattle.steps.specs.declared.Ran.{Ran}
-use Rattle.framework.specs.Run.{tables, tapes, run}
+use Rattle.framework.specs.Run.{tables, tapes}
 use Rattle.framework.proofs.Counts.{kind-fits}
-use Rattle.framework.proofs.Turns.{ahead, ahead-all, ahead-turn, ahead-idle, ahead-stops, ahead-ends, ahead-taken}
+use Rattle.framework.proofs.Turns.{Ahead, all-ahead, ahead-turn, ahead-idle, ahead-stops, ahead-ends, ahead-event}
 use Rattle.framework.proofs.events.run_events.Statement.{statement}
 use Rattle.framework.proofs.events.run_events.Tie as tie
 
 abbrev Inv-loop : tie.InvT-loop
 Inv-loop fw machines states transitions time events chances values f₀ actions₀ s₀ n i₀ m₀ end₀ kind₀ machine₀ blocked₀ f actions s i m end kind machine blocked =
+    let T = tables machines states transitions in
+    let D = tapes chances values in
     (i ≤ n) × (kind ≤ 9) × (m < end → end ≤ 16) × (f .machines ≡ fw .machines) ×
-    (each (eventTurn (tables machines states transitions) (tapes chances values) events) n 0 (begin fw time)
-    ≡ ahead (tables machines states transitions) (tapes chances values) events n kind machine blocked m end i (run f actions s))
+    Ahead (each (eventTurn T D events) n 0 (begin fw time)) T D events n kind machine blocked m end i f actions s
 
 abbrev μ-loop : tie.MeasureT-loop
 μ-loop fw machines states transitions time events chances values f₀ actions₀ s₀ n i₀ m₀ end₀ kind₀ machine₀ blocked₀ f actions s i m end kind machine blocked =
@@ -31,25 +33,32 @@ shared-from-requires : tie.Need-shared-from-requires Inv-loop μ-loop
 shared-from-requires c κs = search needs
 
 loop-holds : tie.Need-loop-holds Inv-loop μ-loop
-loop-holds c =
-    let a = c .before .before .before .before .before .before .before .before .args in let es = a .events .now in
-    let T = tables (a .machines .now) (a .states .now) (a .transitions .now) in let D = tapes (a .chances .now) (a .values .now) in
-    (omega arith, omega arith, λ h. omega (arith, h), refl, rw (c .before .no-action .ensures, c .shared-from .ensures) (ahead-all T D es (length es / 2) (begin (a .fw) (a .time))))
+loop-holds c = (
+  omega arith,
+  omega arith,
+  λ h. omega (arith, h),
+  refl,
+  rw (c .before .no-action .ensures, c .shared-from .ensures) (all-ahead _ _ _ _ _ _ _),
+)
 
 limit-falls-requires : tie.Need-limit-falls-requires Inv-loop μ-loop
 limit-falls-requires c κs = search needs
 
 states-of-requires : tie.Need-states-of-requires Inv-loop μ-loop
 states-of-requires c κs =
-    omega (arith, c .before .before .loop .inv .2 (c .before .if1 .taken), c .before .if1 .taken)
+    omega (arith, c .before .if1 .taken, c .before .before .loop .inv .2 (c .before .if1 .taken))
 
 mul-r : tie.Need-mul-r Inv-loop μ-loop
 mul-r c =
-    omega (arith, c .before .before .before .loop .inv .2 (c .before .before .if1 .taken), c .before .before .if1 .taken)
+    let if1 = c .before .before .if1 in
+    let loop = c .before .before .before .loop in
+    omega (arith, if1 .taken, loop .inv .2 (if1 .taken))
 
 element-copy-out-r : tie.Need-element-copy-out-r Inv-loop μ-loop
 element-copy-out-r c =
-    omega (arith, c .before .before .before .loop .inv .2 (c .before .before .if1 .taken), c .before .before .if1 .taken)
+    let if1 = c .before .before .if1 in
+    let loop = c .before .before .before .loop in
+    omega (arith, if1 .taken, loop .inv .2 (if1 .taken))
 
 idle-requires : tie.Need-idle-requires Inv-loop μ-loop
 idle-requires c κs = c .before .before .before .before .loop .inv .1
@@ -59,47 +68,66 @@ counted-by-requires c κs = search needs
 
 mul-counted : tie.Need-mul-counted Inv-loop μ-loop
 mul-counted c =
-    omega (arith, c .before .before .before .before .before .before .before .loop .inv .2 (c .before .before .before .before .before .before .if1 .taken), c .before .before .before .before .before .before .if1 .taken)
+    let if1 = c .before .before .before .before .before .before .if1 in
+    let loop = c .before .before .before .before .before .before .before .loop in
+    omega (arith, if1 .taken, loop .inv .2 (if1 .taken))
 
 element-set-from-counted : tie.Need-element-set-from-counted Inv-loop μ-loop
 element-set-from-counted c =
-    omega (arith, c .before .before .before .before .before .before .before .loop .inv .2 (c .before .before .before .before .before .before .if1 .taken), c .before .before .before .before .before .before .if1 .taken)
+    let if1 = c .before .before .before .before .before .before .if1 in
+    let loop = c .before .before .before .before .before .before .before .loop in
+    omega (arith, if1 .taken, loop .inv .2 (if1 .taken))
 
 add-m : tie.Need-add-m Inv-loop μ-loop
 add-m c =
-    omega (arith, c .before .before .before .before .before .before .before .loop .inv .2 (c .before .before .before .before .before .before .if1 .taken), c .before .before .before .before .before .before .if1 .taken)
+    let if1 = c .before .before .before .before .before .before .if1 in
+    let loop = c .before .before .before .before .before .before .before .loop in
+    omega (arith, if1 .taken, loop .inv .2 (if1 .taken))
 
 loop-less : tie.Need-loop-less Inv-loop μ-loop
 loop-less c = omega (arith, c .before .before .before .before .before .before .if1 .taken)
 
 loop-again : tie.Need-loop-again Inv-loop μ-loop
 loop-again c =
-    let a = c .before .before .before .before .before .before .before .before .before .before .before .before .before .before .before .before .args in let l = c .before .before .before .before .before .before .before .loop in let es = a .events .now in
-    let T = tables (a .machines .now) (a .states .now) (a .transitions .now) in let D = tapes (a .chances .now) (a .values .now) in (
-      l .inv .0,
-      l .inv .1,
-      λ h. l .inv .2 (c .before .before .before .before .before .before .if1 .taken),
-      l .inv .3,
-      rw (c .counted-by .ensures)
-          (l .inv .4 ∙ ahead-idle T D es (length es / 2) (l .kind) (l .machine) (l .blocked) (l .m) (l .end) (l .i) (l .f) (l .actions) (l .s) (c .before .before .before .before .before .before .if1 .taken)
-          (sym (rw (c .before .before .before .before .states-of .ensures, c .before .before .before .before .before .limit-falls .ensures) at (c .before .before .idle .ensures)) ∙ c .before .if2 .taken)),
+    let if2 = c .before .if2 in
+    let idle = c .before .before .idle in
+    let states-of = c .before .before .before .before .states-of in
+    let limit-falls = c .before .before .before .before .before .limit-falls in
+    let if1 = c .before .before .before .before .before .before .if1 in
+    let loop = c .before .before .before .before .before .before .before .loop in (
+      loop .inv .0,
+      loop .inv .1,
+      λ h. loop .inv .2 (if1 .taken),
+      loop .inv .3,
+      rw (c .counted-by .ensures) (ahead-idle (loop .inv .4) (if1 .taken)
+          (sym (rw (states-of .ensures, limit-falls .ensures) at (idle .ensures)) ∙ if2 .taken)),
     )
 
 context-from-requires : tie.Need-context-from-requires Inv-loop μ-loop
 context-from-requires c κs =
-    omega (arith, c .before .before .before .before .before .before .loop .inv .2 (c .before .before .before .before .before .if1 .taken), c .before .before .before .before .before .if1 .taken)
+    let if1 = c .before .before .before .before .before .if1 in
+    let loop = c .before .before .before .before .before .before .loop in
+    omega (arith, if1 .taken, loop .inv .2 (if1 .taken))
 
 mul-p : tie.Need-mul-p Inv-loop μ-loop
 mul-p c =
-    omega (arith, c .before .before .before .before .before .before .before .loop .inv .2 (c .before .before .before .before .before .before .if1 .taken), c .before .before .before .before .before .before .if1 .taken)
+    let if1 = c .before .before .before .before .before .before .if1 in
+    let loop = c .before .before .before .before .before .before .before .loop in
+    omega (arith, if1 .taken, loop .inv .2 (if1 .taken))
 
 array-copy-out-p : tie.Need-array-copy-out-p Inv-loop μ-loop
 array-copy-out-p c =
-    omega (arith, c .before .before .before .before .before .before .before .loop .inv .2 (c .before .before .before .before .before .before .if1 .taken), c .before .before .before .before .before .before .if1 .taken)
+    let if1 = c .before .before .before .before .before .before .if1 in
+    let loop = c .before .before .before .before .before .before .before .loop in
+    omega (arith, if1 .taken, loop .inv .2 (if1 .taken))
 
 turn-requires : tie.Need-turn-requires Inv-loop μ-loop
 turn-requires c κs =
-    (c .before .before .before .before .before .before .before .before .loop .inv .1, rw (c .before .context-from .ensures) (omega (arith, c .before .before .before .before .before .before .before .before .loop .inv .2 (c .before .before .before .before .before .before .before .if1 .taken), c .before .before .before .before .before .before .before .if1 .taken)))
+    let context-from = c .before .context-from in
+    let if1 = c .before .before .before .before .before .before .before .if1 in
+    let c₁ = c .before .before .before .before .before .before .before .before in
+    let loop = c₁ .loop in
+    (loop .inv .1, rw (context-from .ensures) (omega (arith, if1 .taken, loop .inv .2 (if1 .taken))))
 
 enum-known-x : tie.Need-enum-known-x Inv-loop μ-loop
 enum-known-x c = search needs
@@ -109,53 +137,89 @@ stopped-requires c κs = search needs
 
 returns : tie.Need-returns Inv-loop μ-loop
 returns c =
-    let a = c .before .before .before .before .before .before .before .before .before .before .before .before .before .before .before .before .before .before .before .before .before .before .args in let l = c .before .before .before .before .before .before .before .before .before .before .before .before .before .loop in let es = a .events .now in
-    let T = tables (a .machines .now) (a .states .now) (a .transitions .now) in let D = tapes (a .chances .now) (a .values .now) in
-    (rw (l .inv .4 ∙ ahead-stops T D es (length es / 2) (l .kind) (l .machine) (l .blocked) (l .m) (l .end) (l .i) (l .f) (l .actions) (l .s) (c .before .before .before .before .before .before .before .before .before .before .before .before .if1 .taken) _ (sym (rw (c .before .before .before .before .before .before .before .before .before .before .states-of .ensures, c .before .before .before .before .before .before .context-from .ensures, c .before .before .before .before .before .before .before .before .before .before .before .limit-falls .ensures) at (c .before .before .before .before .turn .ensures)) ∙ c .before .before .x .given .1)) (c .stopped .ensures), ap (λ (n : Ran). n .framework .machines) (c .stopped .ensures))
+    let x = c .before .before .x in
+    let turn = c .before .before .before .before .turn in
+    let context-from = c .before .before .before .before .before .before .context-from in
+    let c₁ = c .before .before .before .before .before .before .before .before in
+    let states-of = c₁ .before .before .states-of in
+    let limit-falls = c₁ .before .before .before .limit-falls in
+    let if1 = c₁ .before .before .before .before .if1 in
+    let loop = c₁ .before .before .before .before .before .loop in (
+      rw (ahead-stops (loop .inv .4) (if1 .taken)
+          (sym (rw (states-of .ensures, context-from .ensures, limit-falls .ensures) at (turn .ensures))
+          ∙ x .given .1))
+          (c .stopped .ensures),
+      ap (λ (r : Ran). r .framework .machines) (c .stopped .ensures),
+    )
 
 enum-known-x-2 : tie.Need-enum-known-x-2 Inv-loop μ-loop
 enum-known-x-2 c = search needs
 
 mul-r2 : tie.Need-mul-r2 Inv-loop μ-loop
 mul-r2 c =
-    omega (arith, c .before .before .before .before .before .before .before .before .before .before .before .before .before .before .loop .inv .2 (c .before .before .before .before .before .before .before .before .before .before .before .before .before .if1 .taken), c .before .before .before .before .before .before .before .before .before .before .before .before .before .if1 .taken)
+    let c₁ = c .before .before .before .before .before .before .before .before in
+    let if1 = c₁ .before .before .before .before .before .if1 in
+    let loop = c₁ .before .before .before .before .before .before .loop in
+    omega (arith, if1 .taken, loop .inv .2 (if1 .taken))
 
 element-set-from-r2 : tie.Need-element-set-from-r2 Inv-loop μ-loop
 element-set-from-r2 c =
-    omega (arith, c .before .before .before .before .before .before .before .before .before .before .before .before .before .before .loop .inv .2 (c .before .before .before .before .before .before .before .before .before .before .before .before .before .if1 .taken), c .before .before .before .before .before .before .before .before .before .before .before .before .before .if1 .taken)
+    let c₁ = c .before .before .before .before .before .before .before .before in
+    let if1 = c₁ .before .before .before .before .before .if1 in
+    let loop = c₁ .before .before .before .before .before .before .loop in
+    omega (arith, if1 .taken, loop .inv .2 (if1 .taken))
 
 mul-actions : tie.Need-mul-actions Inv-loop μ-loop
 mul-actions c =
-    omega (arith, c .before .before .before .before .before .before .before .before .before .before .before .before .before .before .loop .inv .2 (c .before .before .before .before .before .before .before .before .before .before .before .before .before .if1 .taken), c .before .before .before .before .before .before .before .before .before .before .before .before .before .if1 .taken)
+    let c₁ = c .before .before .before .before .before .before .before .before in
+    let if1 = c₁ .before .before .before .before .before .if1 in
+    let loop = c₁ .before .before .before .before .before .before .loop in
+    omega (arith, if1 .taken, loop .inv .2 (if1 .taken))
 
 array-set-from-actions : tie.Need-array-set-from-actions Inv-loop μ-loop
 array-set-from-actions c =
-    omega (arith, c .before .before .before .before .before .before .before .before .before .before .before .before .before .before .loop .inv .2 (c .before .before .before .before .before .before .before .before .before .before .before .before .before .if1 .taken), c .before .before .before .before .before .before .before .before .before .before .before .before .before .if1 .taken)
+    let c₁ = c .before .before .before .before .before .before .before .before in
+    let if1 = c₁ .before .before .before .before .before .if1 in
+    let loop = c₁ .before .before .before .before .before .before .loop in
+    omega (arith, if1 .taken, loop .inv .2 (if1 .taken))
 
 add-m-2 : tie.Need-add-m-2 Inv-loop μ-loop
 add-m-2 c =
-    omega (arith, c .before .before .before .before .before .before .before .before .before .before .before .before .before .before .before .loop .inv .2 (c .before .before .before .before .before .before .before .before .before .before .before .before .before .before .if1 .taken), c .before .before .before .before .before .before .before .before .before .before .before .before .before .before .if1 .taken)
+    let c₁ = c .before .before .before .before .before .before .before .before in
+    let if1 = c₁ .before .before .before .before .before .before .if1 in
+    let loop = c₁ .before .before .before .before .before .before .before .loop in
+    omega (arith, if1 .taken, loop .inv .2 (if1 .taken))
 
 loop-less-2 : tie.Need-loop-less-2 Inv-loop μ-loop
 loop-less-2 c =
-    omega (arith, c .before .before .before .before .before .before .before .before .before .before .before .before .before .before .if1 .taken)
+    let c₁ = c .before .before .before .before .before .before .before .before in
+    let if1 = c₁ .before .before .before .before .before .before .if1 in
+    omega (arith, if1 .taken)
 
 loop-again-2 : tie.Need-loop-again-2 Inv-loop μ-loop
 loop-again-2 c =
-    let a = c .before .before .before .before .before .before .before .before .before .before .before .before .before .before .before .before .before .before .before .before .before .before .before .before .args in let l = c .before .before .before .before .before .before .before .before .before .before .before .before .before .before .before .loop in let es = a .events .now in
-    let T = tables (a .machines .now) (a .states .now) (a .transitions .now) in let D = tapes (a .chances .now) (a .values .now) in (
-      l .inv .0,
-      l .inv .1,
-      λ h. l .inv .2 (c .before .before .before .before .before .before .before .before .before .before .before .before .before .before .if1 .taken),
-      l .inv .3,
-      l .inv .4 ∙ ahead-turn T D es (length es / 2) (l .kind) (l .machine) (l .blocked) (l .m) (l .end) (l .i) (l .f) (l .actions) (l .s) (c .before .before .before .before .before .before .before .before .before .before .before .before .before .before .if1 .taken) _ (sym (rw (c .before .before .before .before .before .before .before .before .before .before .before .before .states-of .ensures, c .before .before .before .before .before .before .before .before .context-from .ensures, c .before .before .before .before .before .before .before .before .before .before .before .before .before .limit-falls .ensures) at (c .before .before .before .before .before .before .turn .ensures)) ∙ c .before .before .before .before .x2 .given .1),
+    let x2 = c .before .before .before .before .x2 in
+    let turn = c .before .before .before .before .before .before .turn in
+    let c₁ = c .before .before .before .before .before .before .before .before in
+    let context-from = c₁ .context-from in
+    let states-of = c₁ .before .before .before .before .states-of in
+    let limit-falls = c₁ .before .before .before .before .before .limit-falls in
+    let if1 = c₁ .before .before .before .before .before .before .if1 in
+    let loop = c₁ .before .before .before .before .before .before .before .loop in (
+      loop .inv .0,
+      loop .inv .1,
+      λ h. loop .inv .2 (if1 .taken),
+      loop .inv .3,
+      ahead-turn (loop .inv .4) (if1 .taken)
+          (sym (rw (states-of .ensures, context-from .ensures, limit-falls .ensures) at (turn .ensures))
+          ∙ x2 .given .1),
     )
 
 returns-2 : tie.Need-returns-2 Inv-loop μ-loop
 returns-2 c =
-    let a = c .before .before .before .before .before .before .before .before .before .before .before .args in let l = c .before .before .loop in let es = a .events .now in
-    let T = tables (a .machines .now) (a .states .now) (a .transitions .now) in let D = tapes (a .chances .now) (a .values .now) in
-    (rw (l .inv .4 ∙ ahead-ends T D es (length es / 2) (l .kind) (l .machine) (l .blocked) (l .m) (l .end) (l .i) (l .f) (l .actions) (l .s) (c .before .if1 .left) (c .if3 .taken)), l .inv .3)
+    let if1 = c .before .if1 in
+    let loop = c .before .before .loop in
+    (rw (ahead-ends (loop .inv .4) (if1 .left) (c .if3 .taken)), loop .inv .3)
 
 mul-kind : tie.Need-mul-kind Inv-loop μ-loop
 mul-kind c = search needs
@@ -207,23 +271,44 @@ active-after-requires c κs = search needs
 
 add-i : tie.Need-add-i Inv-loop μ-loop
 add-i c =
-    omega (arith, c .before .before .before .before .before .before .before .before .before .before .before .if3 .left, c .before .before .before .before .before .before .before .before .before .before .before .before .before .before .before .before .before .before .before .before .before .before .good .1 .1 .1 .1 .1 .0 .0)
+    let c₁ = c .before .before .before .before .before .before .before .before in
+    let if3 = c₁ .before .before .before .if3 in
+    let c₂ = c₁ .before .before .before .before .before .before .before .before in
+    let good = c₂ .before .before .before .before .before .before .good in
+    omega (arith, if3 .left, good .1 .1 .1 .1 .1 .0 .0)
 
 loop-less-3 : tie.Need-loop-less-3 Inv-loop μ-loop
 loop-less-3 c =
-    omega (arith, c .before .before .before .before .before .before .before .before .before .before .before .if3 .left, c .before .before .before .before .before .end-for .ensures .1 .0, c .before .before .before .before .before .before .before .first-for .ensures)
+    let end-for = c .before .before .before .before .before .end-for in
+    let first-for = c .before .before .before .before .before .before .before .first-for in
+    let c₁ = c .before .before .before .before .before .before .before .before in
+    let if3 = c₁ .before .before .before .if3 in
+    omega (arith, if3 .left, end-for .ensures .1 .0, first-for .ensures)
 
 loop-again-3 : tie.Need-loop-again-3 Inv-loop μ-loop
 loop-again-3 c =
-    let a = c .before .before .before .before .before .before .before .before .before .before .before .before .before .before .before .before .before .before .before .before .before .before .args in let l = c .before .before .before .before .before .before .before .before .before .before .before .before .before .loop in let es = a .events .now in
-    let T = tables (a .machines .now) (a .states .now) (a .transitions .now) in let D = tapes (a .chances .now) (a .values .now) in
-    let k = kind-fits es (l .i) (length es / 2) (c .before .before .before .before .before .before .before .before .before .before .before .if3 .left) (c .before .before .before .before .before .before .before .before .before .before .before .before .before .before .before .before .before .before .before .before .before .before .pre) in (
-      omega (arith, c .before .before .before .before .before .before .before .before .before .before .before .if3 .left),
-      k,
-      λ h. c .before .before .before .before .before .end-for .ensures .1 .1 (rw (← c .before .before .before .before .before .before .before .first-for .ensures) h),
-      l .inv .3,
-      l .inv .4 ∙ ahead-taken T D es (length es / 2) (l .kind) (l .machine) (l .blocked) (l .m) (l .end) (l .i) (l .f) (l .actions) (l .s) (c .before .before .before .before .before .before .before .before .before .before .before .before .if1 .left) (c .before .before .before .before .before .before .before .before .before .before .before .if3 .left) _ _ _ _ _ _ _ _
-          (c .before .before .before .before .before .before .before .before .blocked-since .ensures) (c .before .before .before .before .before .before .before .first-for .ensures) (rw (c .before .before .before .before .before .before .smaller .ensures) at (c .before .before .before .before .before .end-for .ensures .0)) (c .before .before .before .before .normal-after .ensures) (c .before .before .before .padding-after .ensures) (c .before .before .duration-after .ensures) (c .before .started-after .ensures) (c .active-after .ensures),
+    let started-after = c .before .started-after in
+    let duration-after = c .before .before .duration-after in
+    let padding-after = c .before .before .before .padding-after in
+    let normal-after = c .before .before .before .before .normal-after in
+    let end-for = c .before .before .before .before .before .end-for in
+    let smaller = c .before .before .before .before .before .before .smaller in
+    let first-for = c .before .before .before .before .before .before .before .first-for in
+    let c₁ = c .before .before .before .before .before .before .before .before in
+    let blocked-since = c₁ .blocked-since in
+    let if3 = c₁ .before .before .before .if3 in
+    let if1 = c₁ .before .before .before .before .if1 in
+    let loop = c₁ .before .before .before .before .before .loop in
+    let c₂ = c₁ .before .before .before .before .before .before .before .before in
+    let pre = c₂ .before .before .before .before .before .before .pre in (
+      omega (arith, if3 .left),
+      kind-fits _ _ _ (if3 .left) (pre),
+      λ h. end-for .ensures .1 .1 (rw (← first-for .ensures) h),
+      loop .inv .3,
+      ahead-event (loop .inv .4) (if1 .left) (if3 .left)
+          (blocked-since .ensures) (first-for .ensures) (rw (smaller .ensures) at (end-for .ensures .0))
+          (normal-after .ensures) (padding-after .ensures) (duration-after .ensures)
+          (started-after .ensures) (c .active-after .ensures),
     )
 
 pub run-events-spec : {M : Type 1} → statement M

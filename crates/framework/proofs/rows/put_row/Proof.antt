@@ -1,4 +1,5 @@
--- `put_row` meets its contract: no action writes nothing, and six stores at the front of a list are the row and what came after.
+-- `put_row` meets its contract: no action writes nothing, and six stores at the front of a list are the row and
+-- what came after.
 use borrow.Author.Needs.{needs}
 use Prim.Native.Nat.{ℕ, _≤_}
 use mathlib.Core.Path.{_≡_, refl}
@@ -9,7 +10,8 @@ use borrow.Author.Tests.{eq-eqb, ne-eqb}
 use Rattle.framework.proofs.rows.put_row.Statement.{statement}
 use Rattle.framework.proofs.rows.put_row.Tie as tie
 
-six : (l : List ℕ) (a b c d e f : ℕ) → 6 ≤ length l → set (set (set (set (set (set l 0 a) 1 b) 2 c) 3 d) 4 e) 5 f ≡ a ∷ b ∷ c ∷ d ∷ e ∷ f ∷ drop 6 l
+six : (l : List ℕ) (a b c d e f : ℕ) → 6 ≤ length l →
+    set (set (set (set (set (set l 0 a) 1 b) 2 c) 3 d) 4 e) 5 f ≡ a ∷ b ∷ c ∷ d ∷ e ∷ f ∷ drop 6 l
 six (x₀ ∷ x₁ ∷ x₂ ∷ x₃ ∷ x₄ ∷ x₅ ∷ xs) a b c d e f h = refl
 six [] a b c d e f h = absurd (omega (arith, h))
 six (x₀ ∷ []) a b c d e f h = absurd (omega (arith, h))
@@ -44,7 +46,9 @@ same-length c = search needs
 
 returns-2 : tie.Need-returns-2
 returns-2 c =
-    rw (ne-eqb _ _ (c .if1 .left)) (refl, six (c .before .before .args .row .now) _ _ _ _ _ _ (c .before .before .pre))
+    let args = c .before .before .args in
+    let pre = c .before .before .pre in
+    rw (ne-eqb _ _ (c .if1 .left)) (refl, six (args .row .now) _ _ _ _ _ _ (pre))
 
 pub put-row-spec : {M : Type 1} → statement M
 put-row-spec =

@@ -1,5 +1,5 @@
--- `put_rows` meets its contract. The loop's invariant: the rows of the first m machines are written, `at` is where they end, and what
--- came after them stands.
+-- `put_rows` meets its contract. The loop's invariant: the rows of the first m machines are written, `at` is where
+-- they end, and what came after them stands.
 use borrow.Author.Needs.{needs}
 use Prim.Native.Nat.{ℕ, _+_, _*_, _-_, _/_, _≤_, _<_}
 use mathlib.Core.Path.{_≡_, refl, ap, _∙_}
@@ -14,7 +14,8 @@ use Rattle.framework.proofs.rows.put_rows.Tie as tie
 
 abbrev Inv-loop : tie.InvT-loop
 Inv-loop count out₀ actions at₀ m₀ out at m =
-    (m ≤ count) × (at ≡ length (actionRows actions m)) × (at ≤ 6 * m) × (length out ≡ length out₀) × (out ≡ written (actionRows actions m) out₀)
+    (m ≤ count) × (at ≡ length (actionRows actions m)) × (at ≤ 6 * m) ×
+    (length out ≡ length out₀) × (out ≡ written (actionRows actions m) out₀)
 
 abbrev μ-loop : tie.MeasureT-loop
 μ-loop count out₀ actions at₀ m₀ out at m = count - m
@@ -43,11 +44,21 @@ part-put-row-end c = search needs
 
 put-row-requires : tie.Need-put-row-requires Inv-loop μ-loop
 put-row-requires c κs =
-    simp (length-take, length-drop) (omega (arith, c .before .before .loop-test .taken, c .before .before .before .loop .inv .2, c .before .before .before .loop .inv .3, c .before .before .before .before .before .pre .1))
+    let loop-test = c .before .before .loop-test in
+    let loop = c .before .before .before .loop in
+    let pre = c .before .before .before .before .before .pre in
+    simp (length-take, length-drop) (omega (arith, loop-test .taken, loop .inv .2, loop .inv .3, pre .1))
 
 add-at : tie.Need-add-at Inv-loop μ-loop
 add-at c =
-    omega (arith, c .before .before .put-row .ensures .0, row-short (c .before .before .before .before .before .before .loop .m) (getD (c .before .before .before .before .before .before .before .before .args .t1) (c .before .before .before .before .before .before .loop .m) noAction), c .before .before .before .before .before .loop-test .taken, c .before .before .before .before .before .before .loop .inv .2, c .before .before .before .before .before .before .before .before .pre .0)
+    let put-row = c .before .before .put-row in
+    let loop-test = c .before .before .before .before .before .loop-test in
+    let loop = c .before .before .before .before .before .before .loop in
+    let c₁ = c .before .before .before .before .before .before .before .before in
+    let args = c₁ .args in
+    let pre = c₁ .pre in
+    let short = row-short (loop .m) (getD (args .t1) (loop .m) noAction) in
+    omega (arith, put-row .ensures .0, short, loop-test .taken, loop .inv .2, pre .0)
 
 add-m : tie.Need-add-m Inv-loop μ-loop
 add-m c = search needs
@@ -57,12 +68,21 @@ loop-less c = search needs
 
 loop-again : tie.Need-loop-again Inv-loop μ-loop
 loop-again c =
-    let a = c .before .before .before .before .before .before .before .before .args .t1 in let l = c .before .before .before .before .before .before .loop in let out₀ = c .before .before .before .before .before .before .before .before .args .out .now in (
-      omega (arith, c .before .before .before .before .before .loop-test .taken),
-      omega (arith, c .before .before .put-row .ensures .0, rows-longer a (l .m), l .inv .1),
-      omega (arith, c .before .before .put-row .ensures .0, row-short (l .m) (getD a (l .m) noAction), l .inv .2),
-      same (l .out) (c .before .before .put-row .last .0) (l .at) (omega (arith, c .before .before .before .before .before .loop-test .taken, l .inv .2, l .inv .3, c .before .before .before .before .before .before .before .before .pre .1)) (c .before .before .put-row .kept .0) ∙ l .inv .3,
-      row-written a (l .m) out₀ (l .out) (c .before .before .put-row .last .0) (l .at) (l .inv .1) (l .inv .4) (c .before .before .put-row .ensures .1),
+    let put-row = c .before .before .put-row in
+    let loop-test = c .before .before .before .before .before .loop-test in
+    let loop = c .before .before .before .before .before .before .loop in
+    let c₁ = c .before .before .before .before .before .before .before .before in
+    let args = c₁ .args in
+    let pre = c₁ .pre in
+    let a = args .t1 in
+    let m = loop .m in
+    let fits : loop .at ≤ length (loop .out) = omega (arith, loop-test .taken, loop .inv .2, loop .inv .3, pre .1) in (
+      omega (arith, loop-test .taken),
+      omega (arith, put-row .ensures .0, rows-longer a m, loop .inv .1),
+      omega (arith, put-row .ensures .0, row-short m (getD a m noAction), loop .inv .2),
+      same (loop .out) (put-row .last .0) (loop .at) fits (put-row .kept .0) ∙ loop .inv .3,
+      row-written a m (args .out .now) (loop .out) (put-row .last .0) (loop .at) (loop .inv .1) (loop .inv .4)
+          (put-row .ensures .1),
     )
 
 same-length : tie.Need-same-length Inv-loop μ-loop
@@ -70,9 +90,11 @@ same-length c = c .before .loop .inv .3
 
 returns : tie.Need-returns Inv-loop μ-loop
 returns c =
-    let e : c .before .loop .m ≡ c .before .before .before .args .count = omega arith in (
-      ap (λ (n : ℕ). n / 6) (c .before .loop .inv .1 ∙ ap (λ (n : ℕ). length (actionRows (c .before .before .before .args .t1) n)) e),
-      c .before .loop .inv .4 ∙ ap (λ (n : ℕ). written (actionRows (c .before .before .before .args .t1) n) (c .before .before .before .args .out .now)) e,
+    let loop = c .before .loop in
+    let args = c .before .before .before .args in
+    let e : loop .m ≡ args .count = omega arith in (
+      ap (λ (n : ℕ). n / 6) (loop .inv .1 ∙ ap (λ (n : ℕ). length (actionRows (args .t1) n)) e),
+      loop .inv .4 ∙ ap (λ (n : ℕ). written (actionRows (args .t1) n) (args .out .now)) e,
     )
 
 pub put-rows-spec : {M : Type 1} → statement M

@@ -1,20 +1,21 @@
--- `run_signals` meets its contract. The loop's invariant: the whole round is what the machines from m to `end` are still to hear, and
--- what follows it. The measure counts 17 for the last signal, and the machines left.
+-- `run_signals` meets its contract. The loop's invariant: the whole round is what the machines from m to `end` are
+-- still to hear, and what follows it. The measure counts 17 for the last signal, and the machines left.
 use borrow.Author.Needs.{needs}
 use Prim.Native.Nat.{ℕ, _+_, _*_, _-_, _≤_, _<_, min}
 use mathlib.Core.Path.{_≡_, refl, sym, ap, _∙_}
 use native.Mathlib.Omega.{arith}
 use Rattle.steps.specs.Events.{signals}
 use Rattle.framework.specs.Run.{tables, tapes, run}
-use Rattle.framework.proofs.Heard.{two-left, known-is, heard, heard-all, heard-skip, heard-turn, heard-stops, heard-last, heard-quiet, heard-dropped, heard-again}
+use Rattle.framework.proofs.Heard.{two-left, known-is, Heard, heard-all, heard-skip, heard-turn, heard-stops}
+use Rattle.framework.proofs.Heard.{heard-last, heard-quiet, heard-dropped, heard-again}
 use Rattle.framework.proofs.signals.run_signals.Statement.{statement}
 use Rattle.framework.proofs.signals.run_signals.Tie as tie
 
 abbrev Inv-loop : tie.InvT-loop
 Inv-loop machines states transitions chances values fw actions s f₀ a₀ t₀ left-out₀ m₀ end₀ f a t left-out m end =
-    (end ≤ 16) × (f .machines ≡ fw .machines) ×
-    (signals (tables machines states transitions) (tapes chances values) (run fw actions s)
-    ≡ heard (tables machines states transitions) (tapes chances values) left-out m end (run f a t))
+    let T = tables machines states transitions in
+    let D = tapes chances values in
+    (end ≤ 16) × (f .machines ≡ fw .machines) × Heard (signals T D (run fw actions s)) T D left-out m end f a t
 
 abbrev μ-loop : tie.MeasureT-loop
 μ-loop machines states transitions chances values fw actions s f₀ a₀ t₀ left-out₀ m₀ end₀ f a t left-out m end =
@@ -25,9 +26,8 @@ smaller-requires c κs = search needs
 
 loop-holds : tie.Need-loop-holds Inv-loop μ-loop
 loop-holds c =
-    let a = c .before .before .before .before .before .before .args in
-    let T = tables (a .machines .now) (a .states .now) (a .transitions .now) in let D = tapes (a .chances .now) (a .values .now) in
-    (rw (c .smaller .ensures) (omega arith), refl, rw (c .smaller .ensures) (heard-all T D (a .fw) (a .actions) (a .s) (c .before .before .before .before .before .before .pre)))
+    let pre = c .before .before .before .before .before .before .pre in
+    (rw (c .smaller .ensures) (omega arith), refl, rw (c .smaller .ensures) (heard-all _ _ _ _ _ (pre)))
 
 add-if2 : tie.Need-add-if2 Inv-loop μ-loop
 add-if2 c = omega (arith, c .before .loop .inv .0, c .if1 .taken)
@@ -40,9 +40,9 @@ loop-less c = omega (arith, c .before .if1 .taken)
 
 loop-again : tie.Need-loop-again Inv-loop μ-loop
 loop-again c =
-    let a = c .before .before .before .before .before .before .before .before .before .args in let l = c .before .before .loop in
-    let T = tables (a .machines .now) (a .states .now) (a .transitions .now) in let D = tapes (a .chances .now) (a .values .now) in
-    (l .inv .0, l .inv .1, l .inv .2 ∙ heard-skip T D (l .f) (l .a) (l .t) (l .left-out) (l .m) (l .end) (c .before .if1 .taken) (c .if2 .taken))
+    let if1 = c .before .if1 in
+    let loop = c .before .before .loop in
+    (loop .inv .0, loop .inv .1, heard-skip (loop .inv .2) (if1 .taken) (c .if2 .taken))
 
 states-of-requires : tie.Need-states-of-requires Inv-loop μ-loop
 states-of-requires c κs = omega (arith, c .before .before .loop .inv .0, c .before .if1 .taken)
@@ -52,77 +52,127 @@ context-from-requires c κs =
     omega (arith, c .before .before .before .loop .inv .0, c .before .before .if1 .taken)
 
 mul-r : tie.Need-mul-r Inv-loop μ-loop
-mul-r c = omega (arith, c .before .before .before .before .loop .inv .0, c .before .before .before .if1 .taken)
+mul-r c =
+    let if1 = c .before .before .before .if1 in
+    let loop = c .before .before .before .before .loop in
+    omega (arith, loop .inv .0, if1 .taken)
 
 element-copy-out-r : tie.Need-element-copy-out-r Inv-loop μ-loop
 element-copy-out-r c =
-    omega (arith, c .before .before .before .before .loop .inv .0, c .before .before .before .if1 .taken)
+    let if1 = c .before .before .before .if1 in
+    let loop = c .before .before .before .before .loop in
+    omega (arith, loop .inv .0, if1 .taken)
 
 mul-p : tie.Need-mul-p Inv-loop μ-loop
 mul-p c =
-    omega (arith, c .before .before .before .before .before .loop .inv .0, c .before .before .before .before .if1 .taken)
+    let if1 = c .before .before .before .before .if1 in
+    let loop = c .before .before .before .before .before .loop in
+    omega (arith, loop .inv .0, if1 .taken)
 
 array-copy-out-p : tie.Need-array-copy-out-p Inv-loop μ-loop
 array-copy-out-p c =
-    omega (arith, c .before .before .before .before .before .loop .inv .0, c .before .before .before .before .if1 .taken)
+    let if1 = c .before .before .before .before .if1 in
+    let loop = c .before .before .before .before .before .loop in
+    omega (arith, loop .inv .0, if1 .taken)
 
 transition-requires : tie.Need-transition-requires Inv-loop μ-loop
 transition-requires c κs =
-    (omega arith, rw (c .before .before .context-from .ensures) (omega (arith, c .before .before .before .before .before .before .loop .inv .0, c .before .before .before .before .before .if1 .taken)))
+    let context-from = c .before .before .context-from in
+    let if1 = c .before .before .before .before .before .if1 in
+    let loop = c .before .before .before .before .before .before .loop in
+    (omega arith, rw (context-from .ensures) (omega (arith, loop .inv .0, if1 .taken)))
 
 enum-known-x : tie.Need-enum-known-x Inv-loop μ-loop
 enum-known-x c = search needs
 
 returns : tie.Need-returns Inv-loop μ-loop
 returns c =
-    let a = c .before .before .before .before .before .before .before .before .before .before .before .before .before .before .before .before .before .args in let l = c .before .before .before .before .before .before .before .before .before .before .loop in
-    let T = tables (a .machines .now) (a .states .now) (a .transitions .now) in let D = tapes (a .chances .now) (a .values .now) in
-    (rw (l .inv .2 ∙ heard-stops T D (l .f) (l .a) (l .t) (l .left-out) (l .m) (l .end) (c .before .before .before .before .before .before .before .before .before .if1 .taken) (c .before .before .before .before .before .before .before .before .if2 .left) _ (sym (rw (c .before .before .before .before .before .before .before .states-of .ensures, c .before .before .before .before .before .before .context-from .ensures) at (c .before .before .before .transition .ensures 2 (two-left (c .before .before .before .before .before .before .before .before .before .before .loop .t)))) ∙ c .before .x .given .1)), refl)
+    let x = c .before .x in
+    let transition = c .before .before .before .transition in
+    let context-from = c .before .before .before .before .before .before .context-from in
+    let states-of = c .before .before .before .before .before .before .before .states-of in
+    let c₁ = c .before .before .before .before .before .before .before .before in
+    let if2 = c₁ .if2 in
+    let if1 = c₁ .before .if1 in
+    let loop = c₁ .before .before .loop in (
+      rw (heard-stops (loop .inv .2) (if1 .taken) (if2 .left)
+          (sym (rw (states-of .ensures, context-from .ensures) at (transition .ensures 2 (two-left (loop .t))))
+          ∙ x .given .1)),
+      refl,
+    )
 
 enum-known-x-2 : tie.Need-enum-known-x-2 Inv-loop μ-loop
 enum-known-x-2 c = search needs
 
 mul-r2 : tie.Need-mul-r2 Inv-loop μ-loop
 mul-r2 c =
-    omega (arith, c .before .before .before .before .before .before .before .before .before .before .before .before .loop .inv .0, c .before .before .before .before .before .before .before .before .before .before .before .if1 .taken)
+    let c₁ = c .before .before .before .before .before .before .before .before in
+    let if1 = c₁ .before .before .before .if1 in
+    let loop = c₁ .before .before .before .before .loop in
+    omega (arith, loop .inv .0, if1 .taken)
 
 element-set-from-r2 : tie.Need-element-set-from-r2 Inv-loop μ-loop
 element-set-from-r2 c =
-    omega (arith, c .before .before .before .before .before .before .before .before .before .before .before .before .loop .inv .0, c .before .before .before .before .before .before .before .before .before .before .before .if1 .taken)
+    let c₁ = c .before .before .before .before .before .before .before .before in
+    let if1 = c₁ .before .before .before .if1 in
+    let loop = c₁ .before .before .before .before .loop in
+    omega (arith, loop .inv .0, if1 .taken)
 
 mul-a : tie.Need-mul-a Inv-loop μ-loop
 mul-a c =
-    omega (arith, c .before .before .before .before .before .before .before .before .before .before .before .before .loop .inv .0, c .before .before .before .before .before .before .before .before .before .before .before .if1 .taken)
+    let c₁ = c .before .before .before .before .before .before .before .before in
+    let if1 = c₁ .before .before .before .if1 in
+    let loop = c₁ .before .before .before .before .loop in
+    omega (arith, loop .inv .0, if1 .taken)
 
 array-set-from-a : tie.Need-array-set-from-a Inv-loop μ-loop
 array-set-from-a c =
-    omega (arith, c .before .before .before .before .before .before .before .before .before .before .before .before .loop .inv .0, c .before .before .before .before .before .before .before .before .before .before .before .if1 .taken)
+    let c₁ = c .before .before .before .before .before .before .before .before in
+    let if1 = c₁ .before .before .before .if1 in
+    let loop = c₁ .before .before .before .before .loop in
+    omega (arith, loop .inv .0, if1 .taken)
 
 add-m-2 : tie.Need-add-m-2 Inv-loop μ-loop
 add-m-2 c =
-    omega (arith, c .before .before .before .before .before .before .before .before .before .before .before .before .before .loop .inv .0, c .before .before .before .before .before .before .before .before .before .before .before .before .if1 .taken)
+    let c₁ = c .before .before .before .before .before .before .before .before in
+    let if1 = c₁ .before .before .before .before .if1 in
+    let loop = c₁ .before .before .before .before .before .loop in
+    omega (arith, loop .inv .0, if1 .taken)
 
 loop-less-2 : tie.Need-loop-less-2 Inv-loop μ-loop
 loop-less-2 c =
-    omega (arith, c .before .before .before .before .before .before .before .before .before .before .before .before .if1 .taken)
+    let c₁ = c .before .before .before .before .before .before .before .before in
+    let if1 = c₁ .before .before .before .before .if1 in
+    omega (arith, if1 .taken)
 
 loop-again-2 : tie.Need-loop-again-2 Inv-loop μ-loop
 loop-again-2 c =
-    let a = c .before .before .before .before .before .before .before .before .before .before .before .before .before .before .before .before .before .before .before .before .args in let l = c .before .before .before .before .before .before .before .before .before .before .before .before .before .loop in
-    let T = tables (a .machines .now) (a .states .now) (a .transitions .now) in let D = tapes (a .chances .now) (a .values .now) in
-    (l .inv .0, l .inv .1, l .inv .2 ∙ heard-turn T D (l .f) (l .a) (l .t) (l .left-out) (l .m) (l .end) (c .before .before .before .before .before .before .before .before .before .before .before .before .if1 .taken) (c .before .before .before .before .before .before .before .before .before .before .before .if2 .left) _ (sym (rw (c .before .before .before .before .before .before .before .before .before .before .states-of .ensures, c .before .before .before .before .before .before .before .before .before .context-from .ensures) at (c .before .before .before .before .before .before .transition .ensures 2 (two-left (c .before .before .before .before .before .before .before .before .before .before .before .before .before .loop .t)))) ∙ c .before .before .before .before .x2 .given .1))
+    let x2 = c .before .before .before .before .x2 in
+    let transition = c .before .before .before .before .before .before .transition in
+    let c₁ = c .before .before .before .before .before .before .before .before in
+    let context-from = c₁ .before .context-from in
+    let states-of = c₁ .before .before .states-of in
+    let if2 = c₁ .before .before .before .if2 in
+    let if1 = c₁ .before .before .before .before .if1 in
+    let loop = c₁ .before .before .before .before .before .loop in (
+      loop .inv .0,
+      loop .inv .1,
+      heard-turn (loop .inv .2) (if1 .taken) (if2 .left)
+          (sym (rw (states-of .ensures, context-from .ensures) at (transition .ensures 2 (two-left (loop .t))))
+          ∙ x2 .given .1),
+    )
 
 returns-2 : tie.Need-returns-2 Inv-loop μ-loop
 returns-2 c =
-    let a = c .before .before .before .before .before .before .before .before .before .before .args in let l = c .before .before .before .loop in
-    let T = tables (a .machines .now) (a .states .now) (a .transitions .now) in let D = tapes (a .chances .now) (a .values .now) in
-    (rw (l .inv .2 ∙ heard-quiet T D (l .f) (l .a) (l .t) (l .left-out) (l .m) (l .end) (c .before .before .if1 .left) (c .if3 .taken)), l .inv .1)
+    let if1 = c .before .before .if1 in
+    let loop = c .before .before .before .loop in
+    (rw (heard-quiet (loop .inv .2) (if1 .left) (c .if3 .taken)), loop .inv .1)
 
 returns-3 : tie.Need-returns-3 Inv-loop μ-loop
 returns-3 c =
-    let a = c .before .before .before .before .before .before .before .before .before .before .before .args in let l = c .before .before .before .before .loop in
-    let T = tables (a .machines .now) (a .states .now) (a .transitions .now) in let D = tapes (a .chances .now) (a .values .now) in
-    (rw (l .inv .2 ∙ heard-last T D (l .f) (l .a) (l .t) (l .left-out) (l .m) (l .end) (c .before .before .before .if1 .left) (c .if4 .taken)), l .inv .1)
+    let if1 = c .before .before .before .if1 in
+    let loop = c .before .before .before .before .loop in
+    (rw (heard-last (loop .inv .2) (if1 .left) (c .if4 .taken)), loop .inv .1)
 
 smaller-requires-2 : tie.Need-smaller-requires-2 Inv-loop μ-loop
 smaller-requires-2 c κs = search needs
@@ -132,27 +182,56 @@ known-requires c κs = rw (c .smaller2 .ensures) (omega arith)
 
 sub-m : tie.Need-sub-m Inv-loop μ-loop
 sub-m c =
-    omega (arith, known-is (c .before .before .before .before .before .before .before .loop .left-out) _ (sym (rw (c .before .before .smaller2 .ensures) at (c .before .known .ensures)) ∙ c .if5 .taken) .0)
+    let known = c .before .known in
+    let smaller2 = c .before .before .smaller2 in
+    let loop = c .before .before .before .before .before .before .before .loop in
+    let k = known-is (loop .left-out) _ (sym (rw (smaller2 .ensures) at (known .ensures)) ∙ c .if5 .taken) in
+    omega (arith, k .0)
 
 add-end : tie.Need-add-end Inv-loop μ-loop
 add-end c =
-    omega (arith, known-is (c .before .before .before .before .before .before .before .loop .left-out) _ (sym (rw (c .before .before .smaller2 .ensures) at (c .before .known .ensures)) ∙ c .if5 .taken) .0, known-is (c .before .before .before .before .before .before .before .loop .left-out) _ (sym (rw (c .before .before .smaller2 .ensures) at (c .before .known .ensures)) ∙ c .if5 .taken) .1)
+    let known = c .before .known in
+    let smaller2 = c .before .before .smaller2 in
+    let loop = c .before .before .before .before .before .before .before .loop in
+    let k = known-is (loop .left-out) _ (sym (rw (smaller2 .ensures) at (known .ensures)) ∙ c .if5 .taken) in
+    omega (arith, k .0, k .1)
 
 loop-less-3 : tie.Need-loop-less-3 Inv-loop μ-loop
 loop-less-3 c =
-    omega (arith, c .before .before .before .if4 .left, known-is (c .before .before .before .before .before .before .before .loop .left-out) _ (sym (rw (c .before .before .smaller2 .ensures) at (c .before .known .ensures)) ∙ c .if5 .taken) .0)
+    let known = c .before .known in
+    let smaller2 = c .before .before .smaller2 in
+    let if4 = c .before .before .before .if4 in
+    let loop = c .before .before .before .before .before .before .before .loop in
+    let k = known-is (loop .left-out) _ (sym (rw (smaller2 .ensures) at (known .ensures)) ∙ c .if5 .taken) in
+    omega (arith, if4 .left, k .0)
 
 loop-again-3 : tie.Need-loop-again-3 Inv-loop μ-loop
 loop-again-3 c =
-    let a = c .before .before .before .before .before .before .before .before .before .before .before .before .before .before .args in let l = c .before .before .before .before .before .before .before .loop in
-    let T = tables (a .machines .now) (a .states .now) (a .transitions .now) in let D = tapes (a .chances .now) (a .values .now) in
-    let k = known-is (c .before .before .before .before .before .before .before .loop .left-out) _ (sym (rw (c .before .before .smaller2 .ensures) at (c .before .known .ensures)) ∙ c .if5 .taken) in (omega (arith, k .0, k .1), l .inv .1, l .inv .2 ∙ heard-again T D (l .f) (l .a) (l .t) (l .left-out) (l .m) (l .end) (c .before .before .before .before .before .before .if1 .left) (c .before .before .before .before .if3 .left) (c .before .before .before .if4 .left) (sym (rw (c .before .before .smaller2 .ensures) at (c .before .known .ensures)) ∙ c .if5 .taken))
+    let known = c .before .known in
+    let smaller2 = c .before .before .smaller2 in
+    let if4 = c .before .before .before .if4 in
+    let if3 = c .before .before .before .before .if3 in
+    let if1 = c .before .before .before .before .before .before .if1 in
+    let loop = c .before .before .before .before .before .before .before .loop in
+    let k = known-is (loop .left-out) _ (sym (rw (smaller2 .ensures) at (known .ensures)) ∙ c .if5 .taken) in (
+      omega (arith, k .0, k .1),
+      loop .inv .1,
+      heard-again (loop .inv .2) (if1 .left) (if3 .left) (if4 .left)
+          (sym (rw (smaller2 .ensures) at (known .ensures)) ∙ c .if5 .taken),
+    )
 
 returns-4 : tie.Need-returns-4 Inv-loop μ-loop
 returns-4 c =
-    let a = c .before .before .before .before .before .before .before .before .before .before .before .before .before .before .args in let l = c .before .before .before .before .before .before .before .loop in
-    let T = tables (a .machines .now) (a .states .now) (a .transitions .now) in let D = tapes (a .chances .now) (a .values .now) in
-    (rw (l .inv .2 ∙ heard-dropped T D (l .f) (l .a) (l .t) (l .left-out) (l .m) (l .end) (c .before .before .before .before .before .before .if1 .left) (c .before .before .before .before .if3 .left) (c .before .before .before .if4 .left) (sym (rw (c .before .before .smaller2 .ensures) at (c .before .known .ensures)) ∙ c .if5 .left)), l .inv .1)
+    let known = c .before .known in
+    let smaller2 = c .before .before .smaller2 in
+    let if4 = c .before .before .before .if4 in
+    let if3 = c .before .before .before .before .if3 in
+    let if1 = c .before .before .before .before .before .before .if1 in
+    let loop = c .before .before .before .before .before .before .before .loop in (
+      rw (heard-dropped (loop .inv .2) (if1 .left) (if3 .left) (if4 .left)
+          (sym (rw (smaller2 .ensures) at (known .ensures)) ∙ c .if5 .left)),
+      loop .inv .1,
+    )
 
 pub run-signals-spec : {M : Type 1} → statement M
 run-signals-spec =

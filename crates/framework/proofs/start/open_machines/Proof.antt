@@ -1,22 +1,22 @@
--- `open_machines` meets its contract. The loop's invariant: the whole opening is what is left of it from machine m on.
+-- `open_machines` meets its contract. The loop's invariant: the whole opening is what is left of it from machine m
+-- on.
 use borrow.Author.Needs.{needs}
 use Prim.Native.Nat.{ℕ, _+_, _*_, _-_, _≤_, _<_}
 use mathlib.Core.Path.{_≡_, refl, sym, ap, _∙_}
 use mathlib.Core.List.{List}
 use native.Mathlib.Nat.{sub-zero}
 use native.Mathlib.Omega.{arith}
-use Rattle.steps.specs.Events.{Tables, each}
-use Rattle.steps.specs.Framework.{rowsIn, openTurn, openRun}
+use Rattle.steps.specs.Framework.{openRun}
 use Rattle.framework.specs.Run.{tables}
-use Rattle.framework.proofs.Opens.{opens, opens-end, opens-on, opens-stop}
+use Rattle.framework.proofs.Opens.{Opens, opens-end, opens-on, opens-stop}
 use Rattle.framework.proofs.start.open_machines.Statement.{statement}
 use Rattle.framework.proofs.start.open_machines.Tie as tie
 
 abbrev Inv-loop : tie.InvT-loop
 Inv-loop max-padding-frac max-blocking-frac time machines states values count f₀ at₀ m₀ f at m =
     (m ≤ count) × (f .«current_time» ≡ time) × ((ts : List ℕ) →
-    openRun (tables machines states ts) max-padding-frac max-blocking-frac time values
-    ≡ each (openTurn (tables machines states ts) values) (count - m) m (opens f at))
+    Opens (openRun (tables machines states ts) max-padding-frac max-blocking-frac time values)
+    (tables machines states ts) values count m f at)
 
 abbrev μ-loop : tie.MeasureT-loop
 μ-loop max-padding-frac max-blocking-frac time machines states values count f₀ at₀ m₀ f at m = count - m
@@ -25,7 +25,11 @@ new-framework-requires : tie.Need-new-framework-requires Inv-loop μ-loop
 new-framework-requires c κs = search needs
 
 loop-holds : tie.Need-loop-holds Inv-loop μ-loop
-loop-holds c = (omega arith, rw (c .new-framework .ensures) refl, λ ts. rw (c .new-framework .ensures, sub-zero))
+loop-holds c = (
+  omega arith,
+  rw (c .new-framework .ensures) refl,
+  λ ts. record { is = rw (c .new-framework .ensures, sub-zero) },
+)
 
 states-of-requires : tie.Need-states-of-requires Inv-loop μ-loop
 states-of-requires c κs =
@@ -45,19 +49,34 @@ unopened-requires c κs = search needs
 
 returns : tie.Need-returns Inv-loop μ-loop
 returns c =
-    let a = c .before .before .before .before .before .before .before .before .before .before .before .before .before .args in let l = c .before .before .before .before .before .before .before .before .loop in let T : List ℕ → Tables = λ ts. tables (a .machines .now) (a .states .now) ts in let n = rowsIn (a .machines .now) in
-    λ ts. rw (l .inv .2 ts ∙ opens-stop (T ts) (a .values .now) n (l .m) (l .f) (l .at) (c .before .before .before .before .before .before .before .loop-test .taken) _ (sym (rw (c .before .before .before .before .before .state-row .ensures, c .before .before .before .before .before .before .states-of .ensures) at (c .before .before .before .before .start-limit .ensures)) ∙ c .before .before .limit .given .1)) (c .unopened .ensures)
+    let limit = c .before .before .limit in
+    let start-limit = c .before .before .before .before .start-limit in
+    let state-row = c .before .before .before .before .before .state-row in
+    let states-of = c .before .before .before .before .before .before .states-of in
+    let loop-test = c .before .before .before .before .before .before .before .loop-test in
+    let c₁ = c .before .before .before .before .before .before .before .before in
+    let loop = c₁ .loop in
+    λ ts.
+    rw (opens-stop (loop .inv .2 ts) (loop-test .taken)
+    (sym (rw (state-row .ensures, states-of .ensures) at (start-limit .ensures)) ∙ limit .given .1))
+    (c .unopened .ensures)
 
 enum-known-limit-2 : tie.Need-enum-known-limit-2 Inv-loop μ-loop
 enum-known-limit-2 c = search needs
 
 mul-word : tie.Need-mul-word Inv-loop μ-loop
 mul-word c =
-    omega (arith, c .before .before .before .before .before .before .loop-test .taken, c .before .before .before .before .before .before .before .before .before .before .before .before .pre)
+    let loop-test = c .before .before .before .before .before .before .loop-test in
+    let c₁ = c .before .before .before .before .before .before .before .before in
+    let pre = c₁ .before .before .before .before .pre in
+    omega (arith, loop-test .taken, pre)
 
 add-word : tie.Need-add-word Inv-loop μ-loop
 add-word c =
-    omega (arith, c .before .before .before .before .before .before .loop-test .taken, c .before .before .before .before .before .before .before .before .before .before .before .before .pre)
+    let loop-test = c .before .before .before .before .before .before .loop-test in
+    let c₁ = c .before .before .before .before .before .before .before .before in
+    let pre = c₁ .before .before .before .before .pre in
+    omega (arith, loop-test .taken, pre)
 
 word-requires : tie.Need-word-requires Inv-loop μ-loop
 word-requires c κs = search needs
@@ -67,33 +86,48 @@ new-runtime-requires c κs = search needs
 
 mul-r : tie.Need-mul-r Inv-loop μ-loop
 mul-r c =
-    omega (arith, c .before .before .before .before .before .before .before .before .loop-test .taken, c .before .before .before .before .before .before .before .before .before .before .before .before .before .before .pre)
+    let c₁ = c .before .before .before .before .before .before .before .before in
+    let loop-test = c₁ .loop-test in
+    let pre = c₁ .before .before .before .before .before .before .pre in
+    omega (arith, loop-test .taken, pre)
 
 element-set-from-r : tie.Need-element-set-from-r Inv-loop μ-loop
 element-set-from-r c =
-    omega (arith, c .before .before .before .before .before .before .before .before .loop-test .taken, c .before .before .before .before .before .before .before .before .before .before .before .before .before .before .pre)
+    let c₁ = c .before .before .before .before .before .before .before .before in
+    let loop-test = c₁ .loop-test in
+    let pre = c₁ .before .before .before .before .before .before .pre in
+    omega (arith, loop-test .taken, pre)
 
 add-m : tie.Need-add-m Inv-loop μ-loop
 add-m c =
-    omega (arith, c .before .before .before .before .before .before .before .before .loop-test .taken, c .before .before .before .before .before .before .before .before .before .before .before .before .before .before .pre)
+    let c₁ = c .before .before .before .before .before .before .before .before in
+    let loop-test = c₁ .loop-test in
+    let pre = c₁ .before .before .before .before .before .before .pre in
+    omega (arith, loop-test .taken, pre)
 
 loop-less : tie.Need-loop-less Inv-loop μ-loop
 loop-less c = search needs
 
 loop-again : tie.Need-loop-again Inv-loop μ-loop
 loop-again c =
-    let a = c .before .before .before .before .before .before .before .before .before .before .before .before .before .before .args in let l = c .before .before .before .before .before .before .before .before .before .loop in let T : List ℕ → Tables = λ ts. tables (a .machines .now) (a .states .now) ts in let n = rowsIn (a .machines .now) in (
-      omega (arith, c .before .before .before .before .before .before .before .before .loop-test .taken),
-      l .inv .1,
+    let word = c .before .word in
+    let limit2 = c .before .before .before .limit2 in
+    let start-limit = c .before .before .before .before .before .start-limit in
+    let state-row = c .before .before .before .before .before .before .state-row in
+    let states-of = c .before .before .before .before .before .before .before .states-of in
+    let c₁ = c .before .before .before .before .before .before .before .before in
+    let loop-test = c₁ .loop-test in
+    let loop = c₁ .before .loop in (
+      omega (arith, loop-test .taken),
+      loop .inv .1,
       λ ts.
-          l .inv .2 ts ∙ opens-on (T ts) (a .values .now) n (l .m) (l .f) (l .at) (c .before .before .before .before .before .before .before .before .loop-test .taken) _ (sym (rw (c .before .before .before .before .before .before .state-row .ensures, c .before .before .before .before .before .before .before .states-of .ensures) at (c .before .before .before .before .before .start-limit .ensures)) ∙ c .before .before .before .limit2 .given .1) _
-          (rw (c .before .word .ensures, ← l .inv .1) at (c .new-runtime .ensures)),
+          opens-on (loop .inv .2 ts) (loop-test .taken)
+          (sym (rw (state-row .ensures, states-of .ensures) at (start-limit .ensures)) ∙ limit2 .given .1)
+          (rw (word .ensures, ← loop .inv .1) at (c .new-runtime .ensures)),
     )
 
 returns-2 : tie.Need-returns-2 Inv-loop μ-loop
-returns-2 c =
-    let a = c .before .before .before .before .before .before .args in let l = c .before .loop in let T : List ℕ → Tables = λ ts. tables (a .machines .now) (a .states .now) ts in let n = rowsIn (a .machines .now) in
-    λ ts. rw (l .inv .2 ts ∙ opens-end (T ts) (a .values .now) n (l .m) (l .f) (l .at) (c .loop-test .left))
+returns-2 c = λ ts. rw (opens-end (c .before .loop .inv .2 ts) (c .loop-test .left))
 
 pub open-machines-spec : {M : Type 1} → statement M
 open-machines-spec =

@@ -19,7 +19,9 @@ sample-limit-requires c κs = search needs
 returns-2 : tie.Need-returns-2
 unfolding startLimit
 returns-2 c =
-    rw (ne-eqb _ _ (λ e. c .before .if1 .left (c .before .before .word .ensures ∙ e))) (c .sample-limit .ensures)
+    let if1 = c .before .if1 in
+    let word = c .before .before .word in
+    rw (ne-eqb _ _ (λ e. if1 .left (word .ensures ∙ e))) (c .sample-limit .ensures)
 
 pub start-limit-spec : {M : Type 1} → statement M
 start-limit-spec = tie.close (tie.spec word-requires returns sample-limit-requires returns-2)
