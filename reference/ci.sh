@@ -14,7 +14,8 @@ out=$(mktemp -d)
 trap 'rm -rf "$out"' EXIT
 cargo build --release --offline --quiet
 cargo test --release --offline --quiet > "$out/tests" 2>&1 || { cat "$out/tests"; exit 1; }
-target/release/record "$out/corpus"
-diff -r -x README.md corpus "$out/corpus"
-target/release/coverage corpus > "$out/coverage" || { cat "$out/coverage"; exit 1; }
+target/release/record "$out/recorded" "$out/printed"
+cmp ../crates/replay/stdin "$out/recorded"
+diff -r corpus/printed "$out/printed"
+target/release/coverage ../crates/replay/stdin corpus/printed > "$out/coverage" || { cat "$out/coverage"; exit 1; }
 echo "reference: the tests pass, the corpus is what the Rust answers, $(tail -n 1 "$out/coverage")"

@@ -17,12 +17,12 @@ pub struct Chosen {
 
 /// The first seeds of each family are the candidates.
 pub const SEEDS: u64 = 1000;
-/// A name is wanted this often in a family's file, and in the corpus; a refusal in a file more often.
-const IN_A_FILE: u64 = 2;
+/// A name is wanted this often in a family's part, and in the corpus; a refusal in a part more often.
+const IN_A_PART: u64 = 2;
 const IN_ALL: u64 = 10;
-const REFUSALS_IN_A_FILE: u64 = 8;
-/// A file has at most this many words, and a case.
-const FILE: usize = 5000;
+const REFUSALS_IN_A_PART: u64 = 8;
+/// A part has at most this many words, and a case.
+const PART: usize = 5000;
 const CASE: usize = 3500;
 
 fn candidates(family: &str) -> Vec<Chosen> {
@@ -44,37 +44,37 @@ fn seen(counts: &Counts, name: &str) -> u64 {
     counts.get(name).copied().unwrap_or(0)
 }
 
-/// The inputs of one family for its file, after those that the corpus has already.
+/// The inputs of one family for its part, after those that the corpus has already.
 fn family(name: &str, corpus: &mut Counts) -> Vec<Chosen> {
     let mut left = candidates(name);
     // in families of refused inputs only the refusals count
     let refused = matches!(name, "tapes" | "damaged" | "double" | "mutated" | "stream");
-    let (mut file, mut size, mut chosen) = (Counts::new(), 0, Vec::new());
+    let (mut part, mut size, mut chosen) = (Counts::new(), 0, Vec::new());
     loop {
         let wanted = |name: &&String| {
             let refusal = name.starts_with("refusal");
-            let often = if refusal { REFUSALS_IN_A_FILE } else { IN_A_FILE };
-            (refusal || !refused) && (seen(&file, name) < often || seen(corpus, name) < IN_ALL)
+            let often = if refusal { REFUSALS_IN_A_PART } else { IN_A_PART };
+            (refusal || !refused) && (seen(&part, name) < often || seen(corpus, name) < IN_ALL)
         };
-        // what the file and the corpus have is worth less and less
-        let had = |name: &String| (1 + seen(&file, name)) * (1 + seen(corpus, name));
+        // what the part and the corpus have is worth less and less
+        let had = |name: &String| (1 + seen(&part, name)) * (1 + seen(corpus, name));
         let worth = |c: &Chosen| {
             let names = c.counts.keys().filter(wanted);
             names.map(|name| 1_000_000_000 / had(name)).sum::<u64>() / c.size as u64
         };
-        let fits = |c: &(usize, &Chosen)| size + c.1.size <= FILE;
+        let fits = |c: &(usize, &Chosen)| size + c.1.size <= PART;
         let best = left.iter().enumerate().filter(fits).max_by_key(|(_, c)| worth(c));
         let Some((place, best)) = best.filter(|(_, c)| worth(c) > 0) else {
             return chosen;
         };
-        add(&mut file, &best.counts);
+        add(&mut part, &best.counts);
         add(corpus, &best.counts);
         size += best.size;
         chosen.push(left.remove(place));
     }
 }
 
-/// The corpus: each file's name and what it holds.
+/// The corpus: each part's name and what it holds.
 pub fn corpus() -> Vec<(String, Vec<Chosen>)> {
     let cases = harness::cases::cases().into_iter().map(|(name, bytes)| {
         let size = bytes.len() / 8;
@@ -83,7 +83,7 @@ pub fn corpus() -> Vec<(String, Vec<Chosen>)> {
     let cases: Vec<Chosen> = cases.collect();
     let mut sum = Counts::new();
     cases.iter().for_each(|c| add(&mut sum, &c.counts));
-    let mut files = vec![("cases".to_string(), cases)];
-    files.extend(FAMILIES.iter().map(|(name, _)| (name.to_string(), family(name, &mut sum))));
-    files
+    let mut parts = vec![("cases".to_string(), cases)];
+    parts.extend(FAMILIES.iter().map(|(name, _)| (name.to_string(), family(name, &mut sum))));
+    parts
 }

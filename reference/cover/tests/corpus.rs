@@ -3,26 +3,21 @@
 use cover::{Counts, add, corpus, counts_of, table};
 use harness::stream::{bytes, words};
 use harness::{answers, run};
-use std::path::{Path, PathBuf};
+use std::path::PathBuf;
 
-fn files(dir: &str, extension: &str) -> Vec<PathBuf> {
-    let dir = Path::new(env!("CARGO_MANIFEST_DIR")).join("../corpus").join(dir);
-    let paths = std::fs::read_dir(dir).unwrap().map(|entry| entry.unwrap().path());
-    let found: Vec<PathBuf> =
-        paths.filter(|path| path.extension().is_some_and(|e| e == extension)).collect();
-    assert!(!found.is_empty());
-    found
+/// A path in the repository.
+fn path(path: &str) -> PathBuf {
+    PathBuf::from(env!("CARGO_MANIFEST_DIR")).join("../..").join(path)
 }
 
 #[test]
 fn recorded_answers_are_the_rusts_and_nothing_is_missing() {
     let mut sum = Counts::new();
-    for file in files("", "bin") {
-        for (input, recorded) in corpus::cases(&words(&std::fs::read(file).unwrap()).unwrap()) {
-            let input = bytes(&input);
-            assert_eq!(answers(&input, true), recorded);
-            add(&mut sum, &counts_of(&input));
-        }
+    let file = std::fs::read(path("crates/replay/stdin")).unwrap();
+    for (input, recorded) in corpus::cases(&words(&file).unwrap()) {
+        let input = bytes(&input);
+        assert_eq!(answers(&input, true), recorded);
+        add(&mut sum, &counts_of(&input));
     }
     let names = table::names().iter().map(|(_, name)| name);
     let missing: Vec<&String> = names.filter(|name| !sum.contains_key(*name)).collect();
@@ -31,7 +26,11 @@ fn recorded_answers_are_the_rusts_and_nothing_is_missing() {
 
 #[test]
 fn printed_runs_are_the_rusts() {
-    for file in files("printed", "in") {
+    let files = std::fs::read_dir(path("reference/corpus/printed")).unwrap();
+    let paths = files.map(|entry| entry.unwrap().path());
+    let inputs: Vec<PathBuf> = paths.filter(|p| p.extension().is_some_and(|e| e == "in")).collect();
+    assert!(!inputs.is_empty());
+    for file in inputs {
         let printed = std::fs::read(file.with_extension("out")).unwrap();
         assert_eq!(run(&std::fs::read(&file).unwrap(), false), printed, "{}", file.display());
     }

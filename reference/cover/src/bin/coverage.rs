@@ -1,5 +1,5 @@
-//! coverage PATH ..: how often each thing of the table occurs in inputs. A PATH is a corpus file (*.bin),
-//! an input (*.in), or a directory of these. The last line says how many are missing; exits with 1
+//! coverage PATH ..: how often each thing of the table occurs in inputs. A PATH is an input (*.in), a
+//! directory of inputs, or the corpus for replay (a file without an ending). The last line says how many are missing; exits with 1
 //! where any is.
 
 use cover::{Counts, add, corpus, counts_of, table};
@@ -20,7 +20,7 @@ fn inputs_of(path: &Path) -> Vec<Vec<u8>> {
     let bytes = std::fs::read(path).unwrap_or_else(|e| panic!("{}: {e}", path.display()));
     match path.extension().and_then(|e| e.to_str()) {
         Some("in") => vec![bytes],
-        Some("bin") => {
+        None => {
             let words = harness::stream::words(&bytes).expect("whole words");
             corpus::cases(&words).iter().map(|(input, _)| harness::stream::bytes(input)).collect()
         }

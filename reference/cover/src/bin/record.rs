@@ -1,12 +1,12 @@
-//! record DIR: writes the corpus with the Rust's answers, DIR/*.bin for replay and DIR/printed/NAME.in
-//! with NAME.out for linkrun. The same sources give the same bytes.
+//! record FILE DIR: writes the corpus with the Rust's answers, FILE for replay and DIR/NAME.in with NAME.out
+//! for linkrun. The same sources give the same bytes.
 
 use cover::choose::{Chosen, corpus};
 use cover::corpus::case;
 use harness::{answers, run, stream};
 use std::path::Path;
 
-/// Inputs longer than this stay out of the files for replay.
+/// Inputs longer than this stay out of the file for replay.
 const LONGEST: usize = 4000;
 
 fn write(path: &Path, bytes: &[u8]) {
@@ -20,8 +20,8 @@ fn file_name(name: &str) -> String {
 }
 
 /// Of the inputs by hand those for a number, a reading or the worked example; of a family a few short ones.
-fn printed<'a>(file: &str, inputs: &'a [Chosen]) -> Vec<&'a Chosen> {
-    if file == "cases" {
+fn printed<'a>(family: &str, inputs: &'a [Chosen]) -> Vec<&'a Chosen> {
+    if family == "cases" {
         let shown = |c: &&Chosen| {
             c.name.starts_with(|first: char| first.is_ascii_digit() || "rw".contains(first))
         };
@@ -34,23 +34,24 @@ fn printed<'a>(file: &str, inputs: &'a [Chosen]) -> Vec<&'a Chosen> {
 }
 
 fn main() {
-    let Some(dir) = std::env::args().nth(1) else {
-        eprintln!("record DIR");
+    let args: Vec<String> = std::env::args().skip(1).collect();
+    let [file, dir] = &args[..] else {
+        eprintln!("record FILE DIR");
         std::process::exit(2);
     };
-    let dir = Path::new(&dir);
-    std::fs::create_dir_all(dir.join("printed")).expect("DIR/printed");
-    for (file, inputs) in corpus() {
+    let dir = Path::new(dir);
+    std::fs::create_dir_all(dir).expect("DIR");
+    let mut recorded: Vec<u64> = Vec::new();
+    for (family, inputs) in corpus() {
         let whole = inputs.iter().filter_map(|c| Some((stream::words(&c.bytes)?, c)));
         let short = whole.filter(|(words, _)| words.len() <= LONGEST);
-        let words: Vec<u64> =
-            short.flat_map(|(words, c)| case(&words, &answers(&c.bytes, true))).collect();
-        write(&dir.join(format!("{file}.bin")), &stream::bytes(&words));
-        for chosen in printed(&file, &inputs) {
-            let name = dir.join("printed").join(file_name(&chosen.name));
+        recorded.extend(short.flat_map(|(words, c)| case(&words, &answers(&c.bytes, true))));
+        for chosen in printed(&family, &inputs) {
+            let name = dir.join(file_name(&chosen.name));
             // the name may end in a number with a point
             write(Path::new(&format!("{}.in", name.display())), &chosen.bytes);
             write(Path::new(&format!("{}.out", name.display())), &run(&chosen.bytes, false));
         }
     }
+    write(Path::new(file), &stream::bytes(&recorded));
 }
