@@ -20,7 +20,11 @@ const RUNTIME_WORDS: usize = 9;
 
 // Bits of a float. NaNs count as one.
 fn bits(x: f64) -> u64 {
-    if x == x { f64::to_bits(x) } else { 0x7ff8_0000_0000_0000 }
+    if x == x {
+        f64::to_bits(x)
+    } else {
+        0x7ff8_0000_0000_0000
+    }
 }
 
 fn put_runtime(out: &mut [u64; 256], at: usize, r: MachineRuntime)

@@ -1,8 +1,8 @@
 // The recorded corpus on standard input, little-endian words. Its format is in
 // reference/corpus/README.md.
 use super::answer::ANSWER;
-use super::answer::ROWS_AT;
 use super::answer::ROW_WORDS;
+use super::answer::ROWS_AT;
 ghost use mathlib.Core.Path.{_≡_};
 ghost use Prim.Native.Nat.{_≤_};
 ghost use lib.ListN.{length};

@@ -1,6 +1,4 @@
 // Calls that no input of linkrun can make: each is refused with its number and changes nothing.
-use steps::Framework;
-use steps::Opened;
 use super::answer::ROW_WORDS;
 use super::answer::at_most_16;
 use super::judge::MARK;
@@ -9,6 +7,8 @@ use super::judge::refused_field;
 use super::judge::refused_opening_field;
 use super::tally::Tally;
 use super::tally::damaged;
+use steps::Framework;
+use steps::Opened;
 ghost use mathlib.Core.Path.{_≡_};
 ghost use Prim.Native.Nat.{_≤_, _<_};
 ghost use lib.ListN.{length};
@@ -92,7 +92,13 @@ fn short_opening(words: &[u64], machines: &[u64], states: &[u64], transitions: &
     refused_opening_field(3, o)
 }
 
-fn short_tables(t: Tally, fw: Framework, machines: &[u64], states: &[u64], transitions: &[u64]) -> Tally {
+fn short_tables(
+    t: Tally,
+    fw: Framework,
+    machines: &[u64],
+    states: &[u64],
+    transitions: &[u64],
+) -> Tally {
     let events = [3u64, 0];
     let mut r = t;
     if 0 < machines.len() {
@@ -121,7 +127,13 @@ fn state_beyond(fw: Framework, m: usize, machines: &[u64]) -> Framework
     d
 }
 
-fn misfits(t: Tally, fw: Framework, machines: &[u64], states: &[u64], transitions: &[u64]) -> Tally {
+fn misfits(
+    t: Tally,
+    fw: Framework,
+    machines: &[u64],
+    states: &[u64],
+    transitions: &[u64],
+) -> Tally {
     let events = [3u64, 0];
     let mut more = fw;
     more.machines = numbers::saturating_add(fw.machines, 1);
@@ -140,7 +152,13 @@ fn misfits(t: Tally, fw: Framework, machines: &[u64], states: &[u64], transition
     r
 }
 
-fn unfit_events(t: Tally, fw: Framework, machines: &[u64], states: &[u64], transitions: &[u64]) -> Tally {
+fn unfit_events(
+    t: Tally,
+    fw: Framework,
+    machines: &[u64],
+    states: &[u64],
+    transitions: &[u64],
+) -> Tally {
     let half = [3u64, 0, 3];
     let field = refused_batch(19, fw, machines, states, transitions, &half, 96);
     let r = damaged(t, HALF_EVENT, field);
@@ -156,7 +174,14 @@ fn unfit_events(t: Tally, fw: Framework, machines: &[u64], states: &[u64], trans
     r
 }
 
-fn on_accepted(t: Tally, words: &[u64], fw: Framework, machines: &[u64], states: &[u64], transitions: &[u64]) -> Tally {
+fn on_accepted(
+    t: Tally,
+    words: &[u64],
+    fw: Framework,
+    machines: &[u64],
+    states: &[u64],
+    transitions: &[u64],
+) -> Tally {
     let mut r = short_tables(t, fw, machines, states, transitions);
     if 0 < machines.len() {
         let field = short_opening(words, shortened(machines), states, transitions);

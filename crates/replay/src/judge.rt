@@ -1,10 +1,7 @@
 // What an answer differs in from the recorded one, or from what a refused call must leave.
-use steps::Answer;
-use steps::Framework;
-use steps::Opened;
 use super::answer::ANSWER;
-use super::answer::ROWS_AT;
 use super::answer::ROW_WORDS;
+use super::answer::ROWS_AT;
 use super::answer::all_zero;
 use super::answer::at_most_16;
 use super::answer::difference;
@@ -21,6 +18,9 @@ use super::tally::ROWS;
 use super::tally::STATE;
 use super::tally::UNCHANGED;
 use super::tally::VALUES;
+use steps::Answer;
+use steps::Framework;
+use steps::Opened;
 ghost use Prim.Native.Nat.{_≤_};
 ghost use lib.ListN.{length};
 
@@ -132,7 +132,15 @@ fn start_limits(fw: Framework, machines: &[u64], states: &[u64]) -> bool {
 pub fn opening_field(o: Opened, theirs: &[u64; 256], machines: &[u64], states: &[u64]) -> u64 {
     let fw = o.framework;
     let mut ours = [0u64; 256];
-    put_answer(&mut ours, o.refusal, 0, o.chance_used, o.value_used, &[0u64; 96], fw);
+    put_answer(
+        &mut ours,
+        o.refusal,
+        0,
+        o.chance_used,
+        o.value_used,
+        &[0u64; 96],
+        fw,
+    );
     let field = first_field(&ours, theirs);
     if field != AGREED {
         return field;
@@ -156,7 +164,15 @@ pub fn opening_field(o: Opened, theirs: &[u64; 256], machines: &[u64], states: &
 pub fn call_field(before: Framework, a: Answer, out: &[u64; 96], theirs: &[u64; 256]) -> u64 {
     let fw = a.framework;
     let mut ours = [0u64; 256];
-    put_answer(&mut ours, a.refusal, a.actions, a.chance_used, a.value_used, out, fw);
+    put_answer(
+        &mut ours,
+        a.refusal,
+        a.actions,
+        a.chance_used,
+        a.value_used,
+        out,
+        fw,
+    );
     let field = first_field(&ours, theirs);
     if field != AGREED {
         return field;

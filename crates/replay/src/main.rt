@@ -7,11 +7,11 @@ mod damage;
 mod judge;
 mod tally;
 
-use steps::Framework;
-use steps::Opened;
-use steps::Answer;
 use answer::ROW_WORDS;
 use answer::at_most_16;
+use steps::Answer;
+use steps::Framework;
+use steps::Opened;
 use tally::Tally;
 ghost use mathlib.Core.Path.{_≡_};
 ghost use Prim.Native.Nat.{_+_, _≤_};
@@ -98,7 +98,14 @@ fn after_call(a: Answer, chance_at: usize, value_at: usize, tally: Tally) -> Bet
 }
 
 // The call at a place of the input.
-fn replay_call(b: Between, call: u64, words: &[u64], at: usize, chances: &[f32], values: &[f64]) -> Between
+fn replay_call(
+    b: Between,
+    call: u64,
+    words: &[u64],
+    at: usize,
+    chances: &[f32],
+    values: &[f64],
+) -> Between
     requires { ⌜ (checkOf (now words) ≡ 0) × (nextCall (now words) at ≤ length (now words)) ⌝ }
 {
     let mut theirs = [0u64; 256];
@@ -159,7 +166,15 @@ fn replay_opening(words: &[u64], values: &[f64]) -> Opened
     let machines = stream::machine_table(words);
     let states = stream::state_table(words);
     let transitions = stream::transition_table(words);
-    framework::opening(padding, blocking, time, machines, states, transitions, values)
+    framework::opening(
+        padding,
+        blocking,
+        time,
+        machines,
+        states,
+        transitions,
+        values,
+    )
 }
 
 // The opening of an input and its calls.
@@ -172,7 +187,10 @@ fn replay_run(t: Tally, words: &[u64], chances: &[f32], values: &[f64], theirs: 
     let field = judge::opening_field(o, theirs, machines, states);
     let t = damage::damaged_calls(tally::recorded(t, 0, field), words, o);
     if theirs[0] != 0 {
-        return Turn { tally: t, more: true };
+        return Turn {
+            tally: t,
+            more: true,
+        };
     }
     let fw = o.framework;
     let first = Between {
@@ -200,7 +218,13 @@ fn replay_input(t: Tally, words: &[u64], theirs: &[u64; 256]) -> Turn
     let mut values = [0.0f64; 8192];
     text::put_chances(chance_words, &mut chances);
     text::put_values(value_words, &mut values);
-    replay_run(t, words, &chances[..chance_words.len()], &values[..value_words.len()], theirs)
+    replay_run(
+        t,
+        words,
+        &chances[..chance_words.len()],
+        &values[..value_words.len()],
+        theirs,
+    )
 }
 
 // The calls that a case has by its input and its opening.
@@ -237,7 +261,10 @@ fn replay_case(t: Tally, words: &[u64]) -> Turn
 fn replay_next(t: Tally) -> Turn {
     let mut head = [0u64; 2];
     if !corpus::read_words(&mut head, 0, 1) {
-        return Turn { tally: t, more: false };
+        return Turn {
+            tally: t,
+            more: false,
+        };
     }
     let t = tally::next_case(t);
     if !corpus::read_words(&mut head, 1, 2) {
