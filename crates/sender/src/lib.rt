@@ -54,9 +54,11 @@ pub extern "C" fn maybenot_batch(
     values: &[f64],
     out: &mut [u64],
 ) -> Reply
-    ensures { λ r. ⌜ (now (fw .exit) ≡ Spec.batch (now (fw .entry)) (tables (now (machines .entry)) (now (states .entry)) (now (transitions .entry))) time (now (events .entry)) (tapes (now (chances .entry)) (now (values .entry))) (now (out .entry)) .answer .framework)
-        × (r ≡ replyOf (Spec.batch (now (fw .entry)) (tables (now (machines .entry)) (now (states .entry)) (now (transitions .entry))) time (now (events .entry)) (tapes (now (chances .entry)) (now (values .entry))) (now (out .entry)) .answer))
-        × (now (out .exit) ≡ Spec.batch (now (fw .entry)) (tables (now (machines .entry)) (now (states .entry)) (now (transitions .entry))) time (now (events .entry)) (tapes (now (chances .entry)) (now (values .entry))) (now (out .entry)) .out) ⌝ }
+    ensures { λ r. ⌜ (
+        let T = tables (now (machines .entry)) (now (states .entry)) (now (transitions .entry)) in
+        let D = tapes (now (chances .entry)) (now (values .entry)) in
+        let B = Spec.batch (now (fw .entry)) T time (now (events .entry)) D (now (out .entry)) in
+        (now (fw .exit) ≡ B .answer .framework) × (r ≡ replyOf (B .answer)) × (now (out .exit) ≡ B .out)) ⌝ }
 {
     let a = framework::batch(
         *fw,
