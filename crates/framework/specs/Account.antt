@@ -2,13 +2,14 @@
 -- no step of the code takes the whole framework.
 use Prim.Native.Nat.{ℕ, _+_, _-_, _*_}
 use mathlib.Core.List.{List}
-use mathlib.Core.Bool.{Bool, cond, not, _&&_, _||_}
+use mathlib.Core.Bool.{Bool, false, cond, not}
 use lib.Dec.{eqb}
 use lib.Ieee.{Float, binary64, ofBits}
 use Rattle.numbers.specs.Saturating.{saturatingAdd}
-use Rattle.machine.specs.Constants.{stateEnd, allowedPaddingPackets, maxPaddingFrac, maxBlockingFrac}
-use Rattle.machine.specs.Event.{eventOf, normalSent, paddingSent, blockingBegin, blockingEnd}
-use Rattle.machine.specs.State.{stateRow, countOf}
+use Rattle.machine.specs.Constants.{allowedPaddingPackets, maxPaddingFrac, maxBlockingFrac}
+use Rattle.machine.specs.Event.{normalSent, paddingSent, blockingBegin, blockingEnd}
+use Rattle.machine.specs.declared.state.Next.{Next}
+use Rattle.machine.specs.declared.state.Next.the-variants.{State, Nothing}
 use Rattle.steps.specs.Events.{machineWord}
 use Rattle.steps.specs.declared.Context.{Context}
 
@@ -39,10 +40,10 @@ activeAfter kind active =
     cond (eqb kind blockingBegin) (cond (isOn active) active 1)
     (cond (eqb kind blockingEnd) (cond (isOn active) 0 active) active)
 
--- a turn changes the machine's counts alone: it has ended or its state has no row for the event, and no limit falls
-unfoldable pub idleAt : Bool → List ℕ → ℕ → ℕ → Bool
-idleAt falls rows state kind =
-    not falls && (eqb state stateEnd || eqb (countOf (stateRow rows state) (eventOf kind)) 0)
+-- a turn changes the machine's counts alone: no next state was chosen, and no limit falls
+unfoldable pub onlyCounts : Bool → Next → Bool
+onlyCounts falls (State next) = false
+onlyCounts falls Nothing = not falls
 
 -- what a machine's transition reads, of its row and of the framework's own numbers
 abbrev pub contextFrom : List ℕ → ℕ → ℕ → Float → ℕ → ℕ → Float → ℕ → ℕ → ℕ → ℕ → Context

@@ -1,14 +1,11 @@
 // process_event of framework.rs, but for the machines' transitions: what an event counts, and which
 // machines hear it. Each function takes the numbers that it reads and never the framework.
 use machine::constants::MACHINE_WORDS;
-use machine::constants::STATE_END;
 use machine::event::BLOCKING_BEGIN;
 use machine::event::BLOCKING_END;
 use machine::event::NORMAL_SENT;
 use machine::event::PADDING_SENT;
-use machine::event::event_of;
-use machine::state::count_of;
-use machine::state::state_row;
+use machine::state::Next;
 use machine::state::state_rows;
 use machine::state::word;
 use steps::Context;
@@ -17,7 +14,7 @@ ghost use Prim.Native.Nat.{_+_, _≤_, _<_};
 ghost use Rattle.machine.specs.Constants.{stateWords, firstState, numStates};
 ghost use Rattle.machine.specs.State.{rowsOf};
 ghost use Rattle.steps.specs.Events.{ownOnly, limitFalls, firstFor, turnsFor, machineWord};
-ghost use Rattle.framework.specs.Account.{blockedSince, normalAfter, paddingAfter, durationAfter, startedAfter, activeAfter, idleAt, contextFrom};
+ghost use Rattle.framework.specs.Account.{blockedSince, normalAfter, paddingAfter, durationAfter, startedAfter, activeAfter, onlyCounts, contextFrom};
 
 // TimerBegin and TimerEnd among the kinds of `TriggerEvent`.
 const TIMER_BEGIN_KIND: u64 = 8;
@@ -172,20 +169,18 @@ pub fn states_of<'a>(machines: &[u64], states: &'a [u64], m: usize) -> &'a [u64]
     state_rows(states, word(machines, at + 4), word(machines, at + 5))
 }
 
-// Whether a turn changes the machine's counts alone: it has ended, or its state has no row for the
-// event, and the event is none at which its limit falls. Most turns are such, and then nothing else
-// of the machine needs to be passed on and stored.
-pub fn idle(falls: bool, rows: &[u64], current_state: u64, kind: u64) -> bool
-    requires { ⌜ kind ≤ 9 ⌝ }
-    ensures { λ r. ⌜ r ≡ idleAt falls (now (rows .entry)) «current_state» kind ⌝ }
+// Whether a turn changes the machine's counts alone: no next state was chosen, and the event is none
+// at which its limit falls. Then nothing else of the machine needs to be passed on and stored.
+pub fn only_counts(falls: bool, chosen: Next) -> bool
+    ensures { λ r. ⌜ r ≡ onlyCounts falls chosen ⌝ }
 {
     if falls {
         return false;
     }
-    if current_state == STATE_END {
+    let Next::State(_) = chosen else {
         return true;
-    }
-    count_of(state_row(rows, current_state), event_of(kind)) == 0
+    };
+    false
 }
 
 // Of the machine's row, and of the framework's own numbers.

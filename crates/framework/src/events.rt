@@ -5,18 +5,21 @@ use super::account::context_from;
 use super::account::duration_after;
 use super::account::end_for;
 use super::account::first_for;
-use super::account::idle;
 use super::account::limit_falls;
 use super::account::normal_after;
+use super::account::only_counts;
 use super::account::padding_after;
 use super::account::started_after;
 use super::account::states_of;
+use machine::event::event_of;
 use steps::Framework;
 use steps::Ran;
 use steps::Shared;
 use steps::Stepped;
 use steps::TriggerAction;
 use steps::Verdict;
+use transition::choice::Choice;
+use transition::choice::choose;
 ghost use mathlib.Core.Path.{_≡_};
 ghost use mathlib.Core.Bool.{true};
 ghost use Prim.Native.Nat.{_/_};
@@ -105,8 +108,23 @@ pub fn run_events(
             let falls = limit_falls(kind, machine, m as u64);
             let rows = states_of(machines, states, m);
             let r = f.runtime[m];
-            if idle(falls, rows, r.current_state, kind) {
-                let counted = transition::counted_by(kind, blocked, r);
+            let counted = transition::counted_by(kind, blocked, r);
+            let choice = choose(
+                rows,
+                transitions,
+                chances,
+                r.current_state,
+                event_of(kind),
+                s.chance_at,
+            );
+            let chosen = match choice {
+                Choice::Missing(why) => return stopped(fw, why),
+                Choice::Chosen(chosen, at) => {
+                    s.chance_at = at;
+                    chosen
+                }
+            };
+            if only_counts(falls, chosen) {
                 f.runtime[m] = counted;
                 m = m + 1;
                 continue;
@@ -125,31 +143,40 @@ pub fn run_events(
                 f.framework_start,
             );
             let p = actions[m];
-            let x = transition::turn(
+            let x = transition::going(
                 rows,
                 transitions,
                 chances,
                 values,
                 c,
-                kind,
-                falls,
-                blocked,
-                r,
+                chosen,
+                counted,
                 s,
                 p,
             );
-            match x {
-                Stepped::Refused(why) => {
-                    return stopped(fw, why);
-                }
-                Stepped::Done(d) => {
-                    let r2 = d.runtime;
-                    let p2 = d.action;
-                    f.runtime[m] = r2;
-                    actions[m] = p2;
-                    s = d.shared;
-                }
+            let d = match x {
+                Stepped::Refused(why) => return stopped(fw, why),
+                Stepped::Done(d) => d,
+            };
+            if falls {
+                let y = transition::after_own(rows, transitions, chances, values, c, d);
+                let e = match y {
+                    Stepped::Refused(why) => return stopped(fw, why),
+                    Stepped::Done(e) => e,
+                };
+                let r2 = e.runtime;
+                f.runtime[m] = r2;
+                let p2 = e.action;
+                actions[m] = p2;
+                s = e.shared;
+                m = m + 1;
+                continue;
             }
+            let r2 = d.runtime;
+            f.runtime[m] = r2;
+            let p2 = d.action;
+            actions[m] = p2;
+            s = d.shared;
             m = m + 1;
             continue;
         }

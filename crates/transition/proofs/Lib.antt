@@ -1,4 +1,3 @@
 -- Laws that the proofs of `transition` cite.
 pub mod Blocking
 pub mod Counters
-pub mod Events

@@ -1,6 +1,6 @@
 -- The choice of a next state as a definition of its own: what a transition does before it goes to
--- one. `transition-is` says that it is the first part of `steps`' transition, and `idle-turn` that
--- a turn at which nothing is drawn only counts. Assumes nothing.
+-- one. `transition-is` says that it is the first part of `steps`' transition, and `turn-chosen` and
+-- `turn-missing` what a turn is by its choice. Assumes nothing.
 use Prim.Native.Nat.{ℕ}
 use mathlib.Core.List.{List}
 use mathlib.Core.Bool.{Bool, true, false, cond, _||_}
@@ -15,7 +15,7 @@ use Rattle.machine.specs.declared.state.ChanceDrawn.the-variants.{NoChance, Got
 use Rattle.machine.specs.declared.state.Next.{Next}
 use Rattle.machine.specs.declared.state.Next.the-variants.{Nothing}
 use Rattle.numbers.specs.Saturating.{saturatingAdd}
-use Rattle.steps.specs.Events.{withCounts, countedBy, turn}
+use Rattle.steps.specs.Events.{withCounts, countedBy, afterTransition, turn}
 use Rattle.steps.specs.Transition.{Env, done, withChanceAt, drawn, going, transitionBy, zeroTransition}
 use Rattle.steps.specs.declared.MachineRuntime.{MachineRuntime}
 use Rattle.steps.specs.declared.Shared.{Shared}
@@ -69,12 +69,7 @@ module _ (zeroTransition : MachineRuntime → Shared → TriggerAction → Stepp
         either (eqb (r .«current_state») stateEnd) (eqb (countOf (stateRow (E .rows) (r .«current_state»)) event) 0)
         (chanceDraw (E .chances) (s .«chance_at»))
 
-    -- where nothing is drawn it does nothing
-    pub idle-is : idle (E .rows) (r .«current_state») event ≡ true → transitionBy zeroTransition E event r s p ≡ done r s p false
-    unfolding choose
-    idle-is e = transition-is ∙ rw e
-
--- ---- a turn at which nothing is drawn and no limit falls
+-- ---- a turn is what follows its choice
 kept : (kind blocked : ℕ) (r : MachineRuntime) → countedBy kind blocked r .«current_state» ≡ r .«current_state»
 unfolding countedBy
 kept kind blocked r = go (eqb kind normalSent) (eqb kind paddingSent) (eqb kind blockingEnd)
@@ -90,8 +85,21 @@ kept kind blocked r = go (eqb kind normalSent) (eqb kind paddingSent) (eqb kind 
     go false false true = refl
     go false false false = refl
 
-pub idle-turn : (E : Env) (kind blocked : ℕ) (r : MachineRuntime) (s : Shared) (p : TriggerAction) →
-    idle (E .rows) (r .«current_state») (eventOf kind) ≡ true → turn E kind false blocked r s p ≡ done (countedBy kind blocked r) s p false
-unfolding turn
-idle-turn E kind blocked r s p e =
-    rw (idle-is (zeroTransition 2 E) E (eventOf kind) (countedBy kind blocked r) s p (rw (kept kind blocked r) e))
+-- what a turn is, by its choice
+module _ (E : Env) (kind blocked : ℕ) (falls : Bool) (r : MachineRuntime) (s : Shared) (p : TriggerAction) where
+  turn-by : (x : Choice) → choose (E .rows) (E .transitions) (E .chances) (r .«current_state») (eventOf kind) (s .«chance_at») ≡ x →
+      turn E kind falls blocked r s p ≡ afterTransition E falls (choosing (zeroTransition 2 E) E (countedBy kind blocked r) s p x)
+  unfolding turn
+  turn-by x e =
+      rw (transition-is (zeroTransition 2 E) E (eventOf kind) (countedBy kind blocked r) s p, kept kind blocked r, e)
+
+  pub turn-missing : {why : ℕ} →
+      choose (E .rows) (E .transitions) (E .chances) (r .«current_state») (eventOf kind) (s .«chance_at») ≡ Missing why →
+      turn E kind falls blocked r s p ≡ Refused why
+  turn-missing e = turn-by (Missing _) e
+
+  pub turn-chosen : {next : Next} {at : ℕ} →
+      choose (E .rows) (E .transitions) (E .chances) (r .«current_state») (eventOf kind) (s .«chance_at») ≡ Chosen next at →
+      turn E kind falls blocked r s p
+      ≡ afterTransition E falls (going (zeroTransition 2 E) E (countedBy kind blocked r) (withChanceAt s at) p next)
+  turn-chosen e = turn-by (Chosen _ _) e

@@ -17,9 +17,8 @@ pub enum Choice {
     Chosen(Next, usize),
 }
 
-// Whether nothing is drawn: the machine has ended, or its state has no row for the event. A caller
-// that asks first need not make the call (`Choice.idle-turn`).
-pub fn idle(rows: &[u64], state: u64, event: u64) -> bool
+// Whether nothing is drawn: the machine has ended, or its state has no row for the event.
+fn idle(rows: &[u64], state: u64, event: u64) -> bool
     requires { ⌜ event < 13 ⌝ }
     ensures { λ x. ⌜ x ≡ Spec.idle (now (rows .entry)) state event ⌝ }
 {

@@ -12,7 +12,6 @@ use machine::event::COUNTER_ZERO;
 use machine::event::LIMIT_REACHED;
 use machine::event::NORMAL_SENT;
 use machine::event::PADDING_SENT;
-use machine::event::event_of;
 use machine::state::Next;
 use machine::state::state_row;
 use step::after_zero;
@@ -40,7 +39,8 @@ ghost use Rattle.machine.specs.Action.{hasLimit};
 ghost use Rattle.steps.specs.Transition as Spec;
 ghost use Rattle.steps.specs.Transition.{env, left};
 ghost use Rattle.steps.specs.Events as Events;
-ghost use Rattle.transition.specs.Transition.{goToAt};
+ghost use Rattle.steps.specs.declared.Stepped.the-variants.{Done};
+ghost use Rattle.transition.specs.Transition.{goToAt, goingAt};
 
 pub mod choice; // the choice of a next state
 pub mod limits; // below_action_limits and what it asks
@@ -122,7 +122,7 @@ pub fn update_counter(
     })
 }
 
-// Goes to a state of the machine. Its limits are judged before the counters.
+// Goes to a state of the machine.
 pub fn go_to(
     rows: &[u64],
     transitions: &[u64],
@@ -144,14 +144,42 @@ pub fn go_to(
         Entered::In(q, at) => {
             let mut t = s;
             t.value_at = at;
-            let below = limits::below_action_limits(c, q, row);
             let updated = update_counter(rows, transitions, chances, values, c, row, q, t, p);
-            finished(row, values, r.current_state, below, updated)
+            finished(row, values, c, q, r.current_state, updated)
         }
     }
 }
 
-// Without a next state it ends there; END and SIGNAL are no states to go to.
+// What follows the choice of a next state. Without one it ends there; END and SIGNAL are no states
+// to go to.
+pub fn going(
+    rows: &[u64],
+    transitions: &[u64],
+    chances: &[f32],
+    values: &[f64],
+    c: Context,
+    chosen: Next,
+    r: MachineRuntime,
+    s: Shared,
+    p: TriggerAction,
+) -> Stepped
+    requires { ⌜ c .machine < 16 ⌝ }
+    ensures { λ x. ⌜ ((n : ℕ) → left s ≤ n → x ≡ goingAt n (env (now (rows .entry)) (now (transitions .entry)) (now (chances .entry)) (now (values .entry)) c) chosen r s p) ⌝ }
+{
+    let Next::State(next) = chosen else {
+        return done(r, s, p, false);
+    };
+    if next == STATE_END {
+        return ended(r, s, p);
+    }
+    if next == STATE_SIGNAL {
+        let mut t = s;
+        t.signal_pending = raise(s.signal_pending, c.machine);
+        return done(r, t, p, false);
+    }
+    go_to(rows, transitions, chances, values, c, next, r, s, p)
+}
+
 pub fn transition(
     rows: &[u64],
     transitions: &[u64],
@@ -179,17 +207,7 @@ pub fn transition(
         Choice::Chosen(chosen, at) => {
             let mut t = s;
             t.chance_at = at;
-            let Next::State(next) = chosen else {
-                return done(r, t, p, false);
-            };
-            if next == STATE_END {
-                return ended(r, t, p);
-            }
-            if next == STATE_SIGNAL {
-                t.signal_pending = raise(t.signal_pending, c.machine);
-                return done(r, t, p, false);
-            }
-            go_to(rows, transitions, chances, values, c, next, r, t, p)
+            going(rows, transitions, chances, values, c, chosen, r, t, p)
         }
     }
 }
@@ -252,23 +270,18 @@ pub fn after_own(
     chances: &[f32],
     values: &[f64],
     c: Context,
-    stepped: Stepped,
+    d: Step,
 ) -> Stepped
     requires { ⌜ c .machine < 16 ⌝ }
-    ensures { λ x. ⌜ x ≡ Events.afterTransition (env (now (rows .entry)) (now (transitions .entry)) (now (chances .entry)) (now (values .entry)) c) true stepped ⌝ }
+    ensures { λ x. ⌜ x ≡ Events.afterTransition (env (now (rows .entry)) (now (transitions .entry)) (now (chances .entry)) (now (values .entry)) c) true (Done d) ⌝ }
 {
-    match stepped {
-        Stepped::Refused(n) => Stepped::Refused(n),
-        Stepped::Done(d) => {
-            if d.changed {
-                return Stepped::Done(d);
-            }
-            if d.runtime.current_state == STATE_END {
-                return Stepped::Done(d);
-            }
-            decrement_limit(rows, transitions, chances, values, c, d)
-        }
+    if d.changed {
+        return Stepped::Done(d);
     }
+    if d.runtime.current_state == STATE_END {
+        return Stepped::Done(d);
+    }
+    decrement_limit(rows, transitions, chances, values, c, d)
 }
 
 // A machine's own counts, just before its transition.
@@ -289,40 +302,4 @@ pub fn counted_by(kind: u64, blocked: u64, r: MachineRuntime) -> MachineRuntime
         return q;
     }
     r
-}
-
-// `falls`: whether this is an event at which the machine's own state limit falls; `blocked`: how
-// long the blocking that ends was on.
-pub fn turn(
-    rows: &[u64],
-    transitions: &[u64],
-    chances: &[f32],
-    values: &[f64],
-    c: Context,
-    kind: u64,
-    falls: bool,
-    blocked: u64,
-    r: MachineRuntime,
-    s: Shared,
-    p: TriggerAction,
-) -> Stepped
-    requires { ⌜ kind ≤ 9 ⌝ ∗ ⌜ c .machine < 16 ⌝ }
-    ensures { λ x. ⌜ x ≡ Events.turn (env (now (rows .entry)) (now (transitions .entry)) (now (chances .entry)) (now (values .entry)) c) kind falls blocked r s p ⌝ }
-{
-    let counted = counted_by(kind, blocked, r);
-    let stepped = transition(
-        rows,
-        transitions,
-        chances,
-        values,
-        c,
-        event_of(kind),
-        counted,
-        s,
-        p,
-    );
-    if falls {
-        return after_own(rows, transitions, chances, values, c, stepped);
-    }
-    stepped
 }

@@ -1,8 +1,10 @@
 // The parts of a step: what a transition makes of its machine before and after its counter update.
 use super::action::schedule_action;
+use super::limits::below_action_limits;
 use machine::action::sample_limit;
 use machine::constants::STATE_END;
 use machine::dist::WholeDrawn;
+use steps::Context;
 use steps::Entered;
 use steps::MachineRuntime;
 use steps::Scheduled;
@@ -16,6 +18,7 @@ ghost use mathlib.Core.Path.{_≡_};
 ghost use mathlib.Core.Bool.{true, _&&_, _||_};
 ghost use Prim.Native.Nat.{_<_};
 ghost use Rattle.machine.specs.Constants.{stateEnd};
+ghost use Rattle.steps.specs.Limits.{belowActionLimits};
 ghost use Rattle.steps.specs.Transition as Spec;
 
 // ---- two tests
@@ -102,16 +105,23 @@ pub fn has_changed(before: u64, u: Update) -> bool
     before != r.current_state
 }
 
-// The action is scheduled where the limits were not reached before the counter update, and where a
-// CounterZero left the machine none.
-pub fn finish(row: &[u64], values: &[f64], before: u64, below: bool, u: Update) -> Stepped
-    ensures { λ x. ⌜ x ≡ Spec.finish (now (row .entry)) (now (values .entry)) before below u ⌝ }
+// The action is scheduled where a CounterZero left the machine none, and where the limits allow it:
+// they are judged with the machine as it entered the state, before its counters.
+pub fn finish(
+    row: &[u64],
+    values: &[f64],
+    c: Context,
+    entered: MachineRuntime,
+    before: u64,
+    u: Update,
+) -> Stepped
+    ensures { λ x. ⌜ x ≡ Spec.finish (now (row .entry)) (now (values .entry)) before (belowActionLimits c entered (now (row .entry))) u ⌝ }
 {
     let changed = has_changed(before, u);
     let r = u.runtime;
     let s = u.shared;
     let p = u.action;
-    if both(u.allow_schedule, below) {
+    if both(u.allow_schedule, below_action_limits(c, entered, row)) {
         let scheduled = schedule_action(row, values, s.value_at);
         match scheduled {
             Scheduled::Unset(n) => return Stepped::Refused(n),
@@ -125,12 +135,19 @@ pub fn finish(row: &[u64], values: &[f64], before: u64, below: bool, u: Update) 
     done(r, s, p, changed)
 }
 
-pub fn finished(row: &[u64], values: &[f64], before: u64, below: bool, updated: Updated) -> Stepped
-    ensures { λ x. ⌜ x ≡ Spec.finished (now (row .entry)) (now (values .entry)) before below updated ⌝ }
+pub fn finished(
+    row: &[u64],
+    values: &[f64],
+    c: Context,
+    entered: MachineRuntime,
+    before: u64,
+    updated: Updated,
+) -> Stepped
+    ensures { λ x. ⌜ x ≡ Spec.finished (now (row .entry)) (now (values .entry)) before (belowActionLimits c entered (now (row .entry))) updated ⌝ }
 {
     match updated {
         Updated::Halted(n) => Stepped::Refused(n),
-        Updated::Counters(u) => finish(row, values, before, below, u),
+        Updated::Counters(u) => finish(row, values, c, entered, before, u),
     }
 }
 

@@ -4,44 +4,18 @@ use borrow.Author.Tests.{eq-eqb, ne-eqb}
 use Rattle.transition.proofs.after_own.Statement.{statement}
 use Rattle.transition.proofs.after_own.Tie as tie
 
-enum-known-stepped : tie.Need-enum-known-stepped
-enum-known-stepped c = search needs
-
-enum-known-stepped-2 : tie.Need-enum-known-stepped-2
-enum-known-stepped-2 c = search needs
-
 returns : tie.Need-returns
-returns c = rw (c .before .before .stepped2 .given .1, c .if1 .taken)
+returns c = rw (c .if1 .taken)
 
 returns-2 : tie.Need-returns-2
-returns-2 c =
-    rw (
-      c .before .before .before .before .stepped2 .given .1,
-      c .before .before .if1 .left,
-      eq-eqb _ _ (c .if2 .taken),
-    )
+returns-2 c = rw (c .before .before .if1 .left, eq-eqb _ _ (c .if2 .taken))
 
 decrement-limit-requires : tie.Need-decrement-limit-requires
 decrement-limit-requires c κs = search needs
 
 returns-3 : tie.Need-returns-3
-returns-3 c = rw (c .before .stepped .given .1)
-
-returns-4 : tie.Need-returns-4
-returns-4 c =
-    let at-if1 = c .before .before .before in
-    let at-stepped2 = at-if1 .before .before in
-    rw (at-stepped2 .stepped2 .given .1, at-if1 .if1 .left, ne-eqb _ _ (c .before .if2 .left))
-    (c .decrement-limit .ensures)
+returns-3 c =
+    rw (c .before .before .before .if1 .left, ne-eqb _ _ (c .before .if2 .left)) (c .decrement-limit .ensures)
 
 pub after-own-spec : {M : Type 1} → statement M
-after-own-spec =
-    tie.close
-    (tie.spec
-    enum-known-stepped
-    enum-known-stepped-2
-    returns
-    returns-2
-    decrement-limit-requires
-    returns-3
-    returns-4)
+after-own-spec = tie.close (tie.spec returns returns-2 decrement-limit-requires returns-3)

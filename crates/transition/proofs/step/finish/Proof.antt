@@ -9,6 +9,9 @@ use Rattle.transition.proofs.step.finish.Tie as tie
 has-changed-requires : tie.Need-has-changed-requires
 has-changed-requires c κs = search needs
 
+below-action-limits-requires : tie.Need-below-action-limits-requires
+below-action-limits-requires c κs = search needs
+
 both-requires : tie.Need-both-requires
 both-requires c κs = search needs
 
@@ -24,8 +27,9 @@ returns c =
     let at-schedule-action = c .before .before .before in
     let at-if1 = at-schedule-action .before in
     let at-both = at-if1 .before in
+    let at-below = at-both .before in
     rw (
-      sym (at-both .both .ensures) ∙ at-if1 .if1 .taken,
+      sym (rw (at-below .below-action-limits .ensures) at (at-both .both .ensures)) ∙ at-if1 .if1 .taken,
       sym (at-schedule-action .schedule-action .ensures) ∙ c .before .scheduled .given .1,
     )
 
@@ -41,9 +45,10 @@ returns-2 c =
     let at-schedule-action = c .before .before .before .before in
     let at-if1 = at-schedule-action .before in
     let at-both = at-if1 .before in
-    let at-has-changed = at-both .before .before .before .before in
+    let at-below = at-both .before in
+    let at-has-changed = at-below .before .before .before .before in
     rw (
-      sym (at-both .both .ensures) ∙ at-if1 .if1 .taken,
+      sym (rw (at-below .below-action-limits .ensures) at (at-both .both .ensures)) ∙ at-if1 .if1 .taken,
       sym (at-schedule-action .schedule-action .ensures) ∙ c .before .before .scheduled2 .given .1,
     )
     (rw (at-has-changed .has-changed .ensures) at (c .done .ensures))
@@ -54,8 +59,9 @@ done-requires-2 c κs = search needs
 returns-3 : tie.Need-returns-3
 unfolding finish
 returns-3 c =
-    let at-has-changed = c .before .before .before .before .before .before in
-    rw (sym (c .before .before .both .ensures) ∙ c .before .if1 .left)
+    let at-below = c .before .before .before in
+    let at-has-changed = at-below .before .before .before .before in
+    rw (sym (rw (at-below .below-action-limits .ensures) at (c .before .before .both .ensures)) ∙ c .before .if1 .left)
     (rw (at-has-changed .has-changed .ensures) at (c .done2 .ensures))
 
 pub finish-spec : {M : Type 1} → statement M
@@ -63,6 +69,7 @@ finish-spec =
     tie.close
     (tie.spec
     has-changed-requires
+    below-action-limits-requires
     both-requires
     schedule-action-requires
     enum-known-scheduled

@@ -1,4 +1,4 @@
--- `transition`, `go_to` and `update_counter` meet their contracts, by induction on how many
+-- `transition`, `going`, `go_to` and `update_counter` meet their contracts, by induction on how many
 -- counters may still report zero in this call: a CounterZero transition starts with fewer
 -- (`fewer`). Assumes nothing.
 use Prim.Native.Nat.{_+_, _*_, _-_}
@@ -14,18 +14,20 @@ use borrow.Fn.Kinds.{In}
 use borrow.Fn.PlainCycle.{Measures, is, falls, and}
 use Rattle.transition.proofs.go_to.Reads as go-to
 use Rattle.transition.proofs.go_to.Kinds as go-to-kinds
-use Rattle.transition.proofs.+go_to+transition+update_counter.Lts-go_to as go-to-lts
+use Rattle.transition.proofs.+go_to+going+transition+update_counter.Lts-go_to as go-to-lts
+use Rattle.transition.proofs.going.Reads as going
+use Rattle.transition.proofs.going.Kinds as going-kinds
+use Rattle.transition.proofs.+go_to+going+transition+update_counter.Lts-going as going-lts
 use Rattle.transition.proofs.transition.Reads as transition
 use Rattle.transition.proofs.transition.Kinds as transition-kinds
-use Rattle.transition.proofs.+go_to+transition+update_counter.Lts-transition as transition-lts
+use Rattle.transition.proofs.+go_to+going+transition+update_counter.Lts-transition as transition-lts
 use Rattle.transition.proofs.update_counter.Reads as update-counter
 use Rattle.transition.proofs.update_counter.Kinds as update-counter-kinds
-use Rattle.transition.proofs.+go_to+transition+update_counter.Lts-update_counter as update-counter-lts
+use Rattle.transition.proofs.+go_to+going+transition+update_counter.Lts-update_counter as update-counter-lts
 use Rattle.machine.proofs.state.state_row.Reads as state-row-reads
 use Rattle.transition.proofs.choice.choose.Reads as choose-reads
 use Rattle.transition.proofs.counter.no_counters.Reads as no-counters-reads
 use Rattle.transition.proofs.counter.update_one.Reads as update-one-reads
-use Rattle.transition.proofs.limits.below_action_limits.Reads as below-action-limits-reads
 use Rattle.transition.proofs.step.after_zero.Reads as after-zero-reads
 use Rattle.transition.proofs.step.done.Reads as done-reads
 use Rattle.transition.proofs.step.either.Reads as either-reads
@@ -33,23 +35,32 @@ use Rattle.transition.proofs.step.ended.Reads as ended-reads
 use Rattle.transition.proofs.step.enter.Reads as enter-reads
 use Rattle.transition.proofs.step.finished.Reads as finished-reads
 use Rattle.transition.proofs.step.raise.Reads as raise-reads
-use Rattle.transition.proofs.+go_to+transition+update_counter.{statement}
-use Rattle.transition.proofs.+go_to+transition+update_counter.Tie.{close}
+use Rattle.transition.proofs.+go_to+going+transition+update_counter.{statement}
+use Rattle.transition.proofs.+go_to+going+transition+update_counter.Tie.{close}
 
 abbrev μ-go-to : Measures 4 go-to-kinds.ps ℕ
-μ-go-to κs a = left (a .1 .1 .1 .1 .1 .1 .1 .0) * 3 + 1
+μ-go-to κs a = left (a .1 .1 .1 .1 .1 .1 .1 .0) * 4 + 1
+
+abbrev μ-going : Measures 4 going-kinds.ps ℕ
+μ-going κs a = left (a .1 .1 .1 .1 .1 .1 .1 .0) * 4 + 2
 
 abbrev μ-transition : Measures 4 transition-kinds.ps ℕ
-μ-transition κs a = left (a .1 .1 .1 .1 .1 .1 .1 .0) * 3 + 2
+μ-transition κs a = left (a .1 .1 .1 .1 .1 .1 .1 .0) * 4 + 3
 
 abbrev μ-update-counter : Measures 5 update-counter-kinds.ps ℕ
-μ-update-counter κs a = left (a .1 .1 .1 .1 .1 .1 .1 .0) * 3
+μ-update-counter κs a = left (a .1 .1 .1 .1 .1 .1 .1 .0) * 4
 
 abbrev go-to-at : ℕ → In 4 go-to-kinds.ps
 go-to-at t = and 4 go-to-kinds.ps (is 4 go-to-kinds.ps μ-go-to t) go-to.Pre
 
 abbrev go-to-below : ℕ → In 4 go-to-kinds.ps
 go-to-below t = and 4 go-to-kinds.ps (falls 4 go-to-kinds.ps _<_ μ-go-to t) go-to.Pre
+
+abbrev going-at : ℕ → In 4 going-kinds.ps
+going-at t = and 4 going-kinds.ps (is 4 going-kinds.ps μ-going t) going.Pre
+
+abbrev going-below : ℕ → In 4 going-kinds.ps
+going-below t = and 4 going-kinds.ps (falls 4 going-kinds.ps _<_ μ-going t) going.Pre
 
 abbrev transition-at : ℕ → In 4 transition-kinds.ps
 transition-at t =
@@ -81,8 +92,6 @@ gc t = (
   state-row-reads.Learnt,
   enter-reads.Asked,
   enter-reads.Learnt,
-  below-action-limits-reads.Asked,
-  below-action-limits-reads.Learnt,
   update-counter-below t,
   update-counter.Post,
   finished-reads.Asked,
@@ -101,12 +110,9 @@ go-to-enum-known-entered t c = search needs
 go-to-enum-known-entered-2 : (t : ℕ) → go-to-lts.Need-enum-known-entered-2 (gc t) (go-to-at t) go-to.Post
 go-to-enum-known-entered-2 t c = search needs
 
-go-to-below-action-limits-requires : (t : ℕ) → go-to-lts.Need-below-action-limits-requires (gc t) (go-to-at t) go-to.Post
-go-to-below-action-limits-requires t c κs = search needs
-
 go-to-update-counter-requires : (t : ℕ) → go-to-lts.Need-update-counter-requires (gc t) (go-to-at t) go-to.Post
 go-to-update-counter-requires t c κs =
-    let at-pre = c .before .before .before .before .before .before .before .before .before .before in
+    let at-pre = c .before .before .before .before .before .before .before .before .before in
     (omega (arith, at-pre .pre .0), at-pre .pre .1)
 
 go-to-finished-requires : (t : ℕ) → go-to-lts.Need-finished-requires (gc t) (go-to-at t) go-to.Post
@@ -120,19 +126,16 @@ go-to-returns t c =
 
 go-to-returns-2 : (t : ℕ) → go-to-lts.Need-returns-2 (gc t) (go-to-at t) go-to.Post
 go-to-returns-2 t c =
-    let at-entered2 = c .before .before .before .before in
+    let at-entered2 = c .before .before .before in
     λ n h. rw (rw (at-entered2 .before .before .before .state-row .ensures) at
     (sym (at-entered2 .before .before .enter .ensures) ∙ at-entered2 .entered2 .given .1))
     (rw (
-      c .before .before .below-action-limits .ensures,
       c .before .update-counter .ensures n h,
       at-entered2 .before .before .before .state-row .ensures,
     ) at (c .finished .ensures))
 
-abbrev tc : ℕ → transition-lts.Claims
-tc t = (
-  choose-reads.Asked,
-  choose-reads.Learnt,
+abbrev oc : ℕ → going-lts.Claims
+oc t = (
   done-reads.Asked,
   done-reads.Learnt,
   ended-reads.Asked,
@@ -141,6 +144,62 @@ tc t = (
   raise-reads.Learnt,
   go-to-below t,
   go-to.Post,
+)
+
+going-enum-known-chosen : (t : ℕ) → going-lts.Need-enum-known-chosen (oc t) (going-at t) going.Post
+going-enum-known-chosen t c = search needs
+
+going-enum-told : (t : ℕ) → going-lts.Need-enum-told (oc t) (going-at t) going.Post
+going-enum-told t c = search needs
+
+going-done-requires : (t : ℕ) → going-lts.Need-done-requires (oc t) (going-at t) going.Post
+going-done-requires t c κs = search needs
+
+going-returns : (t : ℕ) → going-lts.Need-returns (oc t) (going-at t) going.Post
+going-returns t c = λ n h. rw (c .before .enum-told .given .1) (c .done .ensures)
+
+going-ended-requires : (t : ℕ) → going-lts.Need-ended-requires (oc t) (going-at t) going.Post
+going-ended-requires t c κs = search needs
+
+going-returns-2 : (t : ℕ) → going-lts.Need-returns-2 (oc t) (going-at t) going.Post
+going-returns-2 t c =
+    λ n h. rw (c .before .before .before .chosen .given .1, eq-eqb _ _ (c .before .if1 .taken)) (c .ended .ensures)
+
+going-raise-requires : (t : ℕ) → going-lts.Need-raise-requires (oc t) (going-at t) going.Post
+going-raise-requires t c κs = search needs
+
+going-done-requires-2 : (t : ℕ) → going-lts.Need-done-requires-2 (oc t) (going-at t) going.Post
+going-done-requires-2 t c κs = search needs
+
+going-returns-3 : (t : ℕ) → going-lts.Need-returns-3 (oc t) (going-at t) going.Post
+going-returns-3 t c =
+    λ n h. rw (
+      c .before .before .before .before .before .chosen .given .1,
+      ne-eqb _ _ (c .before .before .before .if1 .left),
+      eq-eqb _ _ (c .before .before .if2 .taken),
+    )
+    (rw (c .before .raise .ensures) at (c .done2 .ensures))
+
+going-go-to-requires : (t : ℕ) → going-lts.Need-go-to-requires (oc t) (going-at t) going.Post
+going-go-to-requires t c κs =
+    let at-pre = c .before .before .before .before .before .before .before .before .before in
+    (omega (arith, at-pre .pre .0), at-pre .pre .1)
+
+going-returns-4 : (t : ℕ) → going-lts.Need-returns-4 (oc t) (going-at t) going.Post
+going-returns-4 t c =
+    λ n h. rw (
+      c .before .before .before .before .chosen .given .1,
+      ne-eqb _ _ (c .before .before .if1 .left),
+      ne-eqb _ _ (c .before .if2 .left),
+    )
+    (c .go-to .ensures n h)
+
+abbrev tc : ℕ → transition-lts.Claims
+tc t = (
+  choose-reads.Asked,
+  choose-reads.Learnt,
+  going-below t,
+  going.Post,
 )
 
 transition-choose-requires : (t : ℕ) → transition-lts.Need-choose-requires (tc t) (transition-at t) transition.Post
@@ -152,85 +211,20 @@ transition-enum-known-choice t c = search needs
 transition-enum-known-choice-2 : (t : ℕ) → transition-lts.Need-enum-known-choice-2 (tc t) (transition-at t) transition.Post
 transition-enum-known-choice-2 t c = search needs
 
-transition-enum-known-chosen : (t : ℕ) → transition-lts.Need-enum-known-chosen (tc t) (transition-at t) transition.Post
-transition-enum-known-chosen t c = search needs
-
-transition-enum-told : (t : ℕ) → transition-lts.Need-enum-told (tc t) (transition-at t) transition.Post
-transition-enum-told t c = search needs
-
-transition-done-requires : (t : ℕ) → transition-lts.Need-done-requires (tc t) (transition-at t) transition.Post
-transition-done-requires t c κs = search needs
+transition-going-requires : (t : ℕ) → transition-lts.Need-going-requires (tc t) (transition-at t) transition.Post
+transition-going-requires t c κs =
+    let at-pre = c .before .before .before .before .before .before .before .before in
+    (omega (arith, at-pre .pre .0), at-pre .pre .1 .1)
 
 transition-returns : (t : ℕ) → transition-lts.Need-returns (tc t) (transition-at t) transition.Post
 transition-returns t c =
-    let at-choice2 = c .before .before .before .before in
-    λ n h. rw (
-      transition-is,
-      sym (at-choice2 .before .before .choose .ensures)
-          ∙ at-choice2 .choice2 .given .1,
-      c .before .enum-told .given .1,
-    ) (c .done .ensures)
-
-transition-ended-requires : (t : ℕ) → transition-lts.Need-ended-requires (tc t) (transition-at t) transition.Post
-transition-ended-requires t c κs = search needs
+    λ n h. rw (transition-is, sym (c .before .before .before .choose .ensures) ∙ c .before .choice .given .1)
 
 transition-returns-2 : (t : ℕ) → transition-lts.Need-returns-2 (tc t) (transition-at t) transition.Post
 transition-returns-2 t c =
-    let at-choice2 = c .before .before .before .before .before .before in
-    λ n h. rw (
-      transition-is,
-      sym (at-choice2 .before .before .choose .ensures)
-          ∙ at-choice2 .choice2 .given .1,
-      c .before .before .before .chosen .given .1,
-      eq-eqb _ _ (c .before .if1 .taken),
-    ) (c .ended .ensures)
-
-transition-raise-requires : (t : ℕ) → transition-lts.Need-raise-requires (tc t) (transition-at t) transition.Post
-transition-raise-requires t c κs = search needs
-
-transition-done-requires-2 : (t : ℕ) → transition-lts.Need-done-requires-2 (tc t) (transition-at t) transition.Post
-transition-done-requires-2 t c κs = search needs
-
-transition-returns-3 : (t : ℕ) → transition-lts.Need-returns-3 (tc t) (transition-at t) transition.Post
-transition-returns-3 t c =
-    let at-chosen = c .before .before .before .before .before in
-    let at-choose = at-chosen .before .before .before .before .before in
-    λ n h. rw (
-      transition-is,
-      sym (at-choose .choose .ensures)
-          ∙ at-chosen .before .before .before .choice2 .given .1,
-      at-chosen .chosen .given .1,
-      ne-eqb _ _ (c .before .before .before .if1 .left),
-      eq-eqb _ _ (c .before .before .if2 .taken),
-    )
-    (rw (c .before .raise .ensures) at (c .done2 .ensures))
-
-transition-go-to-requires : (t : ℕ) → transition-lts.Need-go-to-requires (tc t) (transition-at t) transition.Post
-transition-go-to-requires t c κs =
-    let at-pre = c .before .before .before .before .before .before .before .before .before .before .before .before .before in
-    (omega (arith, at-pre .pre .0), at-pre .pre .1 .1)
-
-transition-returns-4 : (t : ℕ) → transition-lts.Need-returns-4 (tc t) (transition-at t) transition.Post
-transition-returns-4 t c =
-    λ n h. rw (
-      transition-is,
-      sym (c .before .before .before .choose .ensures)
-          ∙ c .before .choice .given .1,
-    )
-
-transition-returns-5 : (t : ℕ) → transition-lts.Need-returns-5 (tc t) (transition-at t) transition.Post
-transition-returns-5 t c =
-    let at-chosen = c .before .before .before .before in
-    let at-choose = at-chosen .before .before .before .before .before in
-    λ n h. rw (
-      transition-is,
-      sym (at-choose .choose .ensures)
-          ∙ at-chosen .before .before .before .choice2 .given .1,
-      at-chosen .chosen .given .1,
-      ne-eqb _ _ (c .before .before .if1 .left),
-      ne-eqb _ _ (c .before .if2 .left),
-    )
-    (c .go-to .ensures n h)
+    let at-choice2 = c .before .before in
+    λ n h. rw (transition-is, sym (at-choice2 .before .before .choose .ensures) ∙ at-choice2 .choice2 .given .1)
+    (c .going .ensures n h)
 
 abbrev uc : ℕ → update-counter-lts.Claims
 uc t = (
@@ -334,38 +328,42 @@ update-counter-returns-5 t c =
       sym (c .before .either .ensures) ∙ c .if2 .left,
     )
 
-pub +go-to+transition+update-counter-spec : {M : Type 1} → statement M
-+go-to+transition+update-counter-spec =
-    close μ-go-to μ-transition μ-update-counter (λ t. go-to-lts.spec (gc t)
+pub +go-to+going+transition+update-counter-spec : {M : Type 1} → statement M
++go-to+going+transition+update-counter-spec =
+    close μ-go-to μ-going μ-transition μ-update-counter (λ t. go-to-lts.spec (gc t)
     (go-to-at t)
     go-to.Post
     (go-to-state-row-requires t)
     (go-to-enter-requires t)
     (go-to-enum-known-entered t)
     (go-to-enum-known-entered-2 t)
-    (go-to-below-action-limits-requires t)
     (go-to-update-counter-requires t)
     (go-to-finished-requires t)
     (go-to-returns t)
     (go-to-returns-2 t))
+    (λ t. going-lts.spec (oc t)
+    (going-at t)
+    going.Post
+    (going-enum-known-chosen t)
+    (going-enum-told t)
+    (going-done-requires t)
+    (going-returns t)
+    (going-ended-requires t)
+    (going-returns-2 t)
+    (going-raise-requires t)
+    (going-done-requires-2 t)
+    (going-returns-3 t)
+    (going-go-to-requires t)
+    (going-returns-4 t))
     (λ t. transition-lts.spec (tc t)
     (transition-at t)
     transition.Post
     (transition-choose-requires t)
     (transition-enum-known-choice t)
     (transition-enum-known-choice-2 t)
-    (transition-enum-known-chosen t)
-    (transition-enum-told t)
-    (transition-done-requires t)
+    (transition-going-requires t)
     (transition-returns t)
-    (transition-ended-requires t)
-    (transition-returns-2 t)
-    (transition-raise-requires t)
-    (transition-done-requires-2 t)
-    (transition-returns-3 t)
-    (transition-go-to-requires t)
-    (transition-returns-4 t)
-    (transition-returns-5 t))
+    (transition-returns-2 t))
     λ t. update-counter-lts.spec (uc t)
     (update-counter-at t)
     update-counter.Post
