@@ -23,15 +23,6 @@ use Rattle.framework.specs.Run.{run}
 use Rattle.framework.proofs.All.{bool-cases}
 use Rattle.framework.proofs.Turns.{each-end, each-on}
 
--- a call has two counters that may report zero
-pub two-left : (s : Shared) → left s ≤ 2
-two-left s = few (s .«counter_a_zeroed») (s .«counter_b_zeroed») where
-  few : (a b : Bool) → unspent a + unspent b ≤ 2
-  few true true = omega arith
-  few true false = omega arith
-  few false true = omega arith
-  few false false = omega arith
-
 -- a signal that leaves out a known machine
 pub known-is : (signal count : ℕ) → (leb 2 signal && ltb signal (2 + count)) ≡ true →
     (2 ≤ signal) × (signal < 2 + count)

@@ -2,19 +2,17 @@
 use Prim.Native.Nat.{ℕ, zero, suc, _+_, _-_, _≤_, _<_}
 use mathlib.Core.Path.{_≡_, refl, sym, ap, _∙_}
 use mathlib.Core.List.{List}
-use mathlib.Core.Bool.{Bool, true, false, false≢true, _||_}
-use mathlib.Core.Logic.{⊎-elim}
+use mathlib.Core.Bool.{Bool, true, false, false≢true}
 use native.Mathlib.Nat.{sub-zero}
 use native.Mathlib.Omega.{arith}
-use lib.Dec.{eqb}
 use lib.ListN.{getD, set}
 use lib.Seq.{set-getD}
-use Rattle.machine.specs.Constants.{stateEnd}
-use Rattle.machine.specs.Event.{eventOf, normalSent, paddingSent, blockingEnd}
-use Rattle.machine.specs.State.{stateRow, countOf}
-use Rattle.steps.specs.Transition.{Env, noAction, done, transition, transitionBy}
+use Rattle.machine.specs.Event.{eventOf}
+use Rattle.machine.specs.declared.state.Next.{Next}
+use Rattle.machine.specs.declared.state.Next.the-variants.{State, Nothing}
+use Rattle.steps.specs.Transition.{Env, noAction, done, withChanceAt}
 use Rattle.steps.specs.Events.{Tables, Tapes, Run, Outcome, stop, go, andThen, each, numMachines, runtimeAt, withRuntime, statesOf}
-use Rattle.steps.specs.Events.{envOf, countedBy, limitFalls, turn, machineTurn, firstFor, turnsFor, processEvent, kindAt, machineAt, eventTurn, blockedFor}
+use Rattle.steps.specs.Events.{envOf, countedBy, limitFalls, afterTransition, turn, machineTurn, firstFor, turnsFor, processEvent, kindAt, machineAt, eventTurn, blockedFor}
 use Rattle.steps.specs.declared.Framework.{Framework}
 use Rattle.steps.specs.declared.MachineRuntime.{MachineRuntime}
 use Rattle.steps.specs.declared.Shared.{Shared}
@@ -22,9 +20,12 @@ use Rattle.steps.specs.declared.Step.{Step}
 use Rattle.steps.specs.declared.Stepped.{Stepped}
 use Rattle.steps.specs.declared.Stepped.the-variants.{Refused, Done}
 use Rattle.steps.specs.declared.TriggerAction.{TriggerAction}
-use Rattle.framework.specs.Account.{idleAt, blockedSince, normalAfter, paddingAfter, durationAfter, startedAfter, activeAfter}
+use Rattle.transition.specs.Choice.{choose, turn-missing, turn-chosen}
+use Rattle.transition.specs.Transition.{goingAt}
+use Rattle.transition.specs.declared.choice.Choice.{Choice}
+use Rattle.transition.specs.declared.choice.Choice.the-variants.{Missing, Chosen}
+use Rattle.framework.specs.Account.{onlyCounts, blockedSince, normalAfter, paddingAfter, durationAfter, startedAfter, activeAfter}
 use Rattle.framework.specs.Run.{run}
-use Rattle.framework.proofs.All.{bool-cases}
 use Rattle.framework.proofs.Counts.{withCounts, afterCounts, blocked-is, accounted-is}
 
 -- a turn of `each`
@@ -36,45 +37,6 @@ module _ (f : ℕ → Run → Outcome) (n i : ℕ) (x : Run) where
   pub each-on : i < n → each f (n - i) i x ≡ andThen (f i x) (each f (n - (i + 1)) (i + 1))
   unfolding each
   each-on h = let one : n - i ≡ suc (n - (i + 1)) = omega arith in rw one
-
--- counts change no state
-counted-state : (kind blocked : ℕ) (r : MachineRuntime) →
-    countedBy kind blocked r .«current_state» ≡ r .«current_state»
-unfolding countedBy
-counted-state kind blocked r =
-    ⊎-elim
-    (λ (a : eqb kind normalSent ≡ true). rw a)
-    (λ (a : eqb kind normalSent ≡ false).
-    ⊎-elim
-    (λ (b : eqb kind paddingSent ≡ true). rw (a, b))
-    (λ (b : eqb kind paddingSent ≡ false).
-    ⊎-elim
-    (λ (c : eqb kind blockingEnd ≡ true). rw (a, b, c))
-    (λ (c : eqb kind blockingEnd ≡ false). rw (a, b, c))
-    (bool-cases (eqb kind blockingEnd)))
-    (bool-cases (eqb kind paddingSent)))
-    (bool-cases (eqb kind normalSent))
-
-module _ (E : Env) (kind blocked : ℕ) (r : MachineRuntime) (s : Shared) (p : TriggerAction) where
-  still :
-      (eqb (r .«current_state») stateEnd || eqb (countOf (stateRow (E .rows) (r .«current_state»)) (eventOf kind)) 0) ≡ true →
-      transition E (eventOf kind) (countedBy kind blocked r) s p ≡ done (countedBy kind blocked r) s p false
-  unfolding transitionBy
-  still e =
-      rw (counted-state kind blocked r)
-      (⊎-elim
-      (λ (a : eqb (r .«current_state») stateEnd ≡ true). rw a)
-      (λ (a : eqb (r .«current_state») stateEnd ≡ false).
-      let none : eqb (countOf (stateRow (E .rows) (r .«current_state»)) (eventOf kind)) 0 ≡ true = rw a at e in
-      rw (a, none))
-      (bool-cases (eqb (r .«current_state») stateEnd)))
-
-  -- an idle turn changes the machine's counts alone
-  idle-turn : (falls : Bool) → idleAt falls (E .rows) (r .«current_state») kind ≡ true →
-      turn E kind falls blocked r s p ≡ done (countedBy kind blocked r) s p false
-  unfolding idleAt turn
-  idle-turn true e = absurd (false≢true e)
-  idle-turn false e = rw (still e)
 
 -- What is ahead of a run whose outcome is o: the machines from m to `end` of the event taken last, then the events
 -- from i on.
@@ -95,6 +57,23 @@ abbrev turned : Tables → Tapes → ℕ → ℕ → ℕ → ℕ → Framework �
 turned T D kind machine blocked m fw actions s =
     turn (envOf T D fw m) kind (limitFalls kind machine m) blocked (runtimeAt fw m) s (getD actions m noAction)
 
+-- ---- a machine's turn, by its choice
+abbrev choiceAt : Tables → Tapes → ℕ → ℕ → Framework → Shared → Choice
+choiceAt T D kind m fw s =
+    choose (statesOf T m) (T .transitions) (D .chances) (runtimeAt fw m .«current_state») (eventOf kind) (s .«chance_at»)
+
+abbrev goingOn : Tables → Tapes → ℕ → ℕ → ℕ → Framework → List TriggerAction → Shared → Next → ℕ → Stepped
+goingOn T D kind blocked m fw actions s next at =
+    goingAt 2 (envOf T D fw m) next (countedBy kind blocked (runtimeAt fw m)) (withChanceAt s at) (getD actions m noAction)
+
+-- where no state was chosen and no limit falls
+only : (E : Env) (falls : Bool) (next : Next) (r : MachineRuntime) (s : Shared) (p : TriggerAction) →
+    onlyCounts falls next ≡ true → afterTransition E falls (goingAt 2 E next r s p) ≡ done r s p false
+unfolding onlyCounts goingAt
+only E true next r s p e = absurd (false≢true e)
+only E false (State next) r s p e = absurd (false≢true e)
+only E false Nothing r s p e = refl
+
 abbrev since : Framework → ℕ
 since fw = blockedSince (fw .«blocking_active») (fw .«current_time») (fw .«blocking_started»)
 
@@ -104,7 +83,7 @@ upTo kind machine fw = firstFor kind machine + turnsFor kind machine (numMachine
 module _ {o : Outcome} {T : Tables} {D : Tapes} {es : List ℕ} {n kind machine blocked m end i : ℕ}
     {fw : Framework} {actions : List TriggerAction} {s : Shared}
     (a : Ahead o T D es n kind machine blocked m end i fw actions s) where
-  pub ahead-turn : m < end → {d : Step} → turned T D kind machine blocked m fw actions s ≡ Done d →
+  ahead-turn : m < end → {d : Step} → turned T D kind machine blocked m fw actions s ≡ Done d →
       Ahead o T D es n kind machine blocked (m + 1) end i
       (withRuntime fw (set (fw .runtime) m (d .runtime))) (set actions m (d .action)) (d .shared)
   unfolding machineTurn
@@ -112,24 +91,64 @@ module _ {o : Outcome} {T : Tables} {D : Tapes} {es : List ℕ} {n kind machine 
     is = a .is ∙ rw (each-on (machineTurn T D kind machine blocked) end m (run fw actions s) h, e);
   }
 
-  pub ahead-stops : m < end → {why : ℕ} → turned T D kind machine blocked m fw actions s ≡ Refused why → o ≡ stop why
+  ahead-stops : m < end → {why : ℕ} → turned T D kind machine blocked m fw actions s ≡ Refused why → o ≡ stop why
   unfolding machineTurn
   ahead-stops h e = a .is ∙ rw (each-on (machineTurn T D kind machine blocked) end m (run fw actions s) h, e)
 
-  pub ahead-idle : m < end →
-      idleAt (limitFalls kind machine m) (statesOf T m) (runtimeAt fw m .«current_state») kind ≡ true →
-      Ahead o T D es n kind machine blocked (m + 1) end i
-      (withRuntime fw (set (fw .runtime) m (countedBy kind blocked (runtimeAt fw m)))) actions s
-  unfolding machineTurn
-  ahead-idle h e =
-      let r = runtimeAt fw m in
-      let p = getD actions m noAction in
-      let still = idle-turn (envOf T D fw m) kind blocked r s p (limitFalls kind machine m) e in
-      record {
-        is =
-            a .is
-            ∙ rw (each-on (machineTurn T D kind machine blocked) end m (run fw actions s) h, still, set-getD actions m noAction);
-      }
+  pub ahead-missing : m < end → {why : ℕ} → choiceAt T D kind m fw s ≡ Missing why → o ≡ stop why
+  ahead-missing h e =
+      ahead-stops h
+      (turn-missing (envOf T D fw m) kind blocked (limitFalls kind machine m) (runtimeAt fw m) s (getD actions m noAction) e)
+
+  module _ (h : m < end) {next : Next} {at : ℕ} (chosen : choiceAt T D kind m fw s ≡ Chosen next at) where
+    -- the turn, by what follows the choice
+    on :
+        turned T D kind machine blocked m fw actions s
+        ≡ afterTransition (envOf T D fw m) (limitFalls kind machine m) (goingOn T D kind blocked m fw actions s next at)
+    on =
+        turn-chosen (envOf T D fw m) kind blocked (limitFalls kind machine m) (runtimeAt fw m) s (getD actions m noAction) chosen
+
+    -- where the machine's own limit may fall
+    own-on : {d : Step} {y : Stepped} →
+        goingOn T D kind blocked m fw actions s next at ≡ Done d → limitFalls kind machine m ≡ true →
+        afterTransition (envOf T D fw m) true (Done d) ≡ y →
+        turned T D kind machine blocked m fw actions s ≡ y
+    own-on g own after = on ∙ rw (g, own) after
+
+    pub ahead-refused : {why : ℕ} → goingOn T D kind blocked m fw actions s next at ≡ Refused why → o ≡ stop why
+    ahead-refused g = ahead-stops h (on ∙ rw g)
+
+    pub ahead-done : {d : Step} →
+        goingOn T D kind blocked m fw actions s next at ≡ Done d → limitFalls kind machine m ≡ false →
+        Ahead o T D es n kind machine blocked (m + 1) end i
+        (withRuntime fw (set (fw .runtime) m (d .runtime))) (set actions m (d .action)) (d .shared)
+    ahead-done {d = d} g still = ahead-turn h {d = d} (on ∙ rw (g, still))
+
+    pub ahead-own-refused : {d : Step} {why : ℕ} →
+        goingOn T D kind blocked m fw actions s next at ≡ Done d → limitFalls kind machine m ≡ true →
+        afterTransition (envOf T D fw m) true (Done d) ≡ Refused why → o ≡ stop why
+    ahead-own-refused g own after = ahead-stops h (own-on g own after)
+
+    pub ahead-own : {d e : Step} →
+        goingOn T D kind blocked m fw actions s next at ≡ Done d → limitFalls kind machine m ≡ true →
+        afterTransition (envOf T D fw m) true (Done d) ≡ Done e →
+        Ahead o T D es n kind machine blocked (m + 1) end i
+        (withRuntime fw (set (fw .runtime) m (e .runtime))) (set actions m (e .action)) (e .shared)
+    ahead-own g own after = ahead-turn h (own-on g own after)
+
+    pub ahead-counts : onlyCounts (limitFalls kind machine m) next ≡ true →
+        Ahead o T D es n kind machine blocked (m + 1) end i
+        (withRuntime fw (set (fw .runtime) m (countedBy kind blocked (runtimeAt fw m)))) actions (withChanceAt s at)
+    unfolding machineTurn
+    ahead-counts quiet = record {
+      is =
+          a .is
+          ∙ rw (
+            each-on (machineTurn T D kind machine blocked) end m (run fw actions s) h,
+            on ∙ only _ _ _ _ _ _ quiet,
+            set-getD actions m noAction,
+          );
+    }
 
   pub ahead-ends : end ≤ m → n ≤ i → o ≡ go (run fw actions s)
   ahead-ends h last =

@@ -2,7 +2,7 @@
 -- no step of the code takes the whole framework.
 use Prim.Native.Nat.{ℕ, _+_, _-_, _*_}
 use mathlib.Core.List.{List}
-use mathlib.Core.Bool.{Bool, false, cond, not}
+use mathlib.Core.Bool.{Bool, true, false, cond, not}
 use lib.Dec.{eqb}
 use lib.Ieee.{Float, binary64, ofBits}
 use Rattle.numbers.specs.Saturating.{saturatingAdd}
@@ -42,8 +42,9 @@ activeAfter kind active =
 
 -- a turn changes the machine's counts alone: no next state was chosen, and no limit falls
 unfoldable pub onlyCounts : Bool → Next → Bool
-onlyCounts falls (State next) = false
-onlyCounts falls Nothing = not falls
+onlyCounts true next = false
+onlyCounts false (State next) = false
+onlyCounts false Nothing = true
 
 -- what a machine's transition reads, of its row and of the framework's own numbers
 abbrev pub contextFrom : List ℕ → ℕ → ℕ → Float → ℕ → ℕ → Float → ℕ → ℕ → ℕ → ℕ → Context

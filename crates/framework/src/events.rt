@@ -143,17 +143,7 @@ pub fn run_events(
                 f.framework_start,
             );
             let p = actions[m];
-            let x = transition::going(
-                rows,
-                transitions,
-                chances,
-                values,
-                c,
-                chosen,
-                counted,
-                s,
-                p,
-            );
+            let x = transition::going(rows, transitions, chances, values, c, chosen, counted, s, p);
             let d = match x {
                 Stepped::Refused(why) => return stopped(fw, why),
                 Stepped::Done(d) => d,

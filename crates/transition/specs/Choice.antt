@@ -22,6 +22,7 @@ use Rattle.steps.specs.declared.Shared.{Shared}
 use Rattle.steps.specs.declared.TriggerAction.{TriggerAction}
 use Rattle.steps.specs.declared.Stepped.{Stepped}
 use Rattle.steps.specs.declared.Stepped.the-variants.{Refused}
+use Rattle.transition.specs.Transition.{goingAt}
 use Rattle.transition.specs.declared.choice.Choice.{Choice}
 use Rattle.transition.specs.declared.choice.Choice.the-variants.{Missing, Chosen}
 
@@ -101,5 +102,6 @@ module _ (E : Env) (kind blocked : ℕ) (falls : Bool) (r : MachineRuntime) (s :
   pub turn-chosen : {next : Next} {at : ℕ} →
       choose (E .rows) (E .transitions) (E .chances) (r .«current_state») (eventOf kind) (s .«chance_at») ≡ Chosen next at →
       turn E kind falls blocked r s p
-      ≡ afterTransition E falls (going (zeroTransition 2 E) E (countedBy kind blocked r) (withChanceAt s at) p next)
+      ≡ afterTransition E falls (goingAt 2 E next (countedBy kind blocked r) (withChanceAt s at) p)
+  unfolding goingAt
   turn-chosen e = turn-by (Chosen _ _) e

@@ -18,7 +18,7 @@ goToAt n E next r s p =
     (enter (stateRow (E .rows) next) (E .values) r next (s .«value_at»))
 
 -- after a choice
-abbrev pub goingAt : ℕ → Env → Next → MachineRuntime → Shared → TriggerAction → Stepped
+unfoldable pub goingAt : ℕ → Env → Next → MachineRuntime → Shared → TriggerAction → Stepped
 goingAt n E next r s p = going (zeroTransition n E) E r s p next
 
 -- two counters, so two reports at the most: the number that a caller of `transition` gives

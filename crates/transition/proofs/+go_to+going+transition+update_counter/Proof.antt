@@ -8,6 +8,7 @@ use borrow.Author.Needs.{needs}
 use borrow.Author.Tests.{eq-eqb, ne-eqb}
 use Rattle.steps.specs.Transition.{left, afterZero, updateCounter}
 use Rattle.transition.specs.Choice.{transition-is}
+use Rattle.transition.specs.Transition.{goingAt}
 use Rattle.transition.proofs.Counters.{fewer, one-less, uncounted, on-report}
 use Prim.Native.Nat.{ℕ, _<_}
 use borrow.Fn.Kinds.{In}
@@ -156,12 +157,14 @@ going-done-requires : (t : ℕ) → going-lts.Need-done-requires (oc t) (going-a
 going-done-requires t c κs = search needs
 
 going-returns : (t : ℕ) → going-lts.Need-returns (oc t) (going-at t) going.Post
+unfolding goingAt
 going-returns t c = λ n h. rw (c .before .enum-told .given .1) (c .done .ensures)
 
 going-ended-requires : (t : ℕ) → going-lts.Need-ended-requires (oc t) (going-at t) going.Post
 going-ended-requires t c κs = search needs
 
 going-returns-2 : (t : ℕ) → going-lts.Need-returns-2 (oc t) (going-at t) going.Post
+unfolding goingAt
 going-returns-2 t c =
     λ n h. rw (c .before .before .before .chosen .given .1, eq-eqb _ _ (c .before .if1 .taken)) (c .ended .ensures)
 
@@ -172,6 +175,7 @@ going-done-requires-2 : (t : ℕ) → going-lts.Need-done-requires-2 (oc t) (goi
 going-done-requires-2 t c κs = search needs
 
 going-returns-3 : (t : ℕ) → going-lts.Need-returns-3 (oc t) (going-at t) going.Post
+unfolding goingAt
 going-returns-3 t c =
     λ n h. rw (
       c .before .before .before .before .before .chosen .given .1,
@@ -186,6 +190,7 @@ going-go-to-requires t c κs =
     (omega (arith, at-pre .pre .0), at-pre .pre .1)
 
 going-returns-4 : (t : ℕ) → going-lts.Need-returns-4 (oc t) (going-at t) going.Post
+unfolding goingAt
 going-returns-4 t c =
     λ n h. rw (
       c .before .before .before .before .chosen .given .1,
@@ -221,6 +226,7 @@ transition-returns t c =
     λ n h. rw (transition-is, sym (c .before .before .before .choose .ensures) ∙ c .before .choice .given .1)
 
 transition-returns-2 : (t : ℕ) → transition-lts.Need-returns-2 (tc t) (transition-at t) transition.Post
+unfolding goingAt
 transition-returns-2 t c =
     let at-choice2 = c .before .before in
     λ n h. rw (transition-is, sym (at-choice2 .before .before .choose .ensures) ∙ at-choice2 .choice2 .given .1)

@@ -9,9 +9,10 @@ use lib.ListN.{length}
 use Rattle.steps.specs.Events.{each, eventTurn}
 use Rattle.steps.specs.Framework.{begin}
 use Rattle.steps.specs.declared.Ran.{Ran}
-use Rattle.framework.specs.Run.{tables, tapes}
-use Rattle.framework.proofs.Counts.{kind-fits}
-use Rattle.framework.proofs.Turns.{Ahead, all-ahead, ahead-turn, ahead-idle, ahead-stops, ahead-ends, ahead-event}
+use Rattle.transition.specs.Transition.{at-most-two}
+use Rattle.framework.specs.Run.{tables, tapes, ranFrom}
+use Rattle.framework.proofs.Counts.{kind-fits, event-small}
+use Rattle.framework.proofs.Turns.{Ahead, all-ahead, ahead-missing, ahead-counts, ahead-refused, ahead-own-refused, ahead-own, ahead-done, ahead-ends, ahead-event}
 use Rattle.framework.proofs.events.run_events.Statement.{statement}
 use Rattle.framework.proofs.events.run_events.Tie as tie
 
@@ -46,7 +47,9 @@ limit-falls-requires c κs = search needs
 
 states-of-requires : tie.Need-states-of-requires Inv-loop μ-loop
 states-of-requires c κs =
-    omega (arith, c .before .if1 .taken, c .before .before .loop .inv .2 (c .before .if1 .taken))
+    let if1 = c .before .if1 in
+    let loop = c .before .before .loop in
+    omega (arith, if1 .taken, loop .inv .2 (if1 .taken))
 
 mul-r : tie.Need-mul-r Inv-loop μ-loop
 mul-r c =
@@ -60,166 +63,349 @@ element-copy-out-r c =
     let loop = c .before .before .before .loop in
     omega (arith, if1 .taken, loop .inv .2 (if1 .taken))
 
-idle-requires : tie.Need-idle-requires Inv-loop μ-loop
-idle-requires c κs = c .before .before .before .before .loop .inv .1
-
 counted-by-requires : tie.Need-counted-by-requires Inv-loop μ-loop
 counted-by-requires c κs = search needs
 
-mul-counted : tie.Need-mul-counted Inv-loop μ-loop
-mul-counted c =
-    let if1 = c .before .before .before .before .before .before .if1 in
-    let loop = c .before .before .before .before .before .before .before .loop in
-    omega (arith, if1 .taken, loop .inv .2 (if1 .taken))
+event-of-requires : tie.Need-event-of-requires Inv-loop μ-loop
+event-of-requires c κs = search needs
 
-element-set-from-counted : tie.Need-element-set-from-counted Inv-loop μ-loop
-element-set-from-counted c =
-    let if1 = c .before .before .before .before .before .before .if1 in
-    let loop = c .before .before .before .before .before .before .before .loop in
-    omega (arith, if1 .taken, loop .inv .2 (if1 .taken))
-
-add-m : tie.Need-add-m Inv-loop μ-loop
-add-m c =
-    let if1 = c .before .before .before .before .before .before .if1 in
-    let loop = c .before .before .before .before .before .before .before .loop in
-    omega (arith, if1 .taken, loop .inv .2 (if1 .taken))
-
-loop-less : tie.Need-loop-less Inv-loop μ-loop
-loop-less c = omega (arith, c .before .before .before .before .before .before .if1 .taken)
-
-loop-again : tie.Need-loop-again Inv-loop μ-loop
-loop-again c =
-    let if2 = c .before .if2 in
-    let idle = c .before .before .idle in
-    let states-of = c .before .before .before .before .states-of in
-    let limit-falls = c .before .before .before .before .before .limit-falls in
-    let if1 = c .before .before .before .before .before .before .if1 in
-    let loop = c .before .before .before .before .before .before .before .loop in (
-      loop .inv .0,
-      loop .inv .1,
-      λ h. loop .inv .2 (if1 .taken),
-      loop .inv .3,
-      rw (c .counted-by .ensures) (ahead-idle (loop .inv .4) (if1 .taken)
-          (sym (rw (states-of .ensures, limit-falls .ensures) at (idle .ensures)) ∙ if2 .taken)),
-    )
-
-context-from-requires : tie.Need-context-from-requires Inv-loop μ-loop
-context-from-requires c κs =
-    let if1 = c .before .before .before .before .before .if1 in
+choose-requires : tie.Need-choose-requires Inv-loop μ-loop
+choose-requires c κs =
+    let event-of = c .event-of in
     let loop = c .before .before .before .before .before .before .loop in
-    omega (arith, if1 .taken, loop .inv .2 (if1 .taken))
+    rw (event-of .ensures) (event-small _ (loop .inv .1))
 
-mul-p : tie.Need-mul-p Inv-loop μ-loop
-mul-p c =
-    let if1 = c .before .before .before .before .before .before .if1 in
-    let loop = c .before .before .before .before .before .before .before .loop in
-    omega (arith, if1 .taken, loop .inv .2 (if1 .taken))
-
-array-copy-out-p : tie.Need-array-copy-out-p Inv-loop μ-loop
-array-copy-out-p c =
-    let if1 = c .before .before .before .before .before .before .if1 in
-    let loop = c .before .before .before .before .before .before .before .loop in
-    omega (arith, if1 .taken, loop .inv .2 (if1 .taken))
-
-turn-requires : tie.Need-turn-requires Inv-loop μ-loop
-turn-requires c κs =
-    let context-from = c .before .context-from in
-    let if1 = c .before .before .before .before .before .before .before .if1 in
-    let c₁ = c .before .before .before .before .before .before .before .before in
-    let loop = c₁ .loop in
-    (loop .inv .1, rw (context-from .ensures) (omega (arith, if1 .taken, loop .inv .2 (if1 .taken))))
-
-enum-known-x : tie.Need-enum-known-x Inv-loop μ-loop
-enum-known-x c = search needs
+enum-known-choice : tie.Need-enum-known-choice Inv-loop μ-loop
+enum-known-choice c = search needs
 
 stopped-requires : tie.Need-stopped-requires Inv-loop μ-loop
 stopped-requires c κs = search needs
 
 returns : tie.Need-returns Inv-loop μ-loop
 returns c =
+    let choice = c .before .before .choice in
+    let choose = c .before .before .before .before .choose in
+    let event-of = c .before .before .before .before .before .event-of in
+    let c₁ = c .before .before .before .before .before .before .before .before in
+    let states-of = c₁ .states-of in
+    let if1 = c₁ .before .before .if1 in
+    let loop = c₁ .before .before .before .loop in (
+      c .stopped .ensures ∙ sym (ap (ranFrom _) (ahead-missing (loop .inv .4) (if1 .taken) (sym (rw (states-of .ensures, event-of .ensures) at (choose .ensures)) ∙ choice .given .1))),
+      ap (λ (r : Ran). r .framework .machines) (c .stopped .ensures),
+    )
+
+enum-known-choice-2 : tie.Need-enum-known-choice-2 Inv-loop μ-loop
+enum-known-choice-2 c = search needs
+
+only-counts-requires : tie.Need-only-counts-requires Inv-loop μ-loop
+only-counts-requires c κs = search needs
+
+mul-counted : tie.Need-mul-counted Inv-loop μ-loop
+mul-counted c =
+    let c₁ = c .before .before .before .before .before .before .before .before in
+    let if1 = c₁ .before .before .before .if1 in
+    let loop = c₁ .before .before .before .before .loop in
+    omega (arith, if1 .taken, loop .inv .2 (if1 .taken))
+
+element-set-from-counted : tie.Need-element-set-from-counted Inv-loop μ-loop
+element-set-from-counted c =
+    let c₁ = c .before .before .before .before .before .before .before .before in
+    let if1 = c₁ .before .before .before .if1 in
+    let loop = c₁ .before .before .before .before .loop in
+    omega (arith, if1 .taken, loop .inv .2 (if1 .taken))
+
+add-m : tie.Need-add-m Inv-loop μ-loop
+add-m c =
+    let c₁ = c .before .before .before .before .before .before .before .before in
+    let if1 = c₁ .before .before .before .if1 in
+    let loop = c₁ .before .before .before .before .loop in
+    omega (arith, if1 .taken, loop .inv .2 (if1 .taken))
+
+loop-less : tie.Need-loop-less Inv-loop μ-loop
+loop-less c =
+    let c₁ = c .before .before .before .before .before .before .before .before in
+    let if1 = c₁ .before .before .before .if1 in
+    omega (arith, if1 .taken)
+
+loop-again : tie.Need-loop-again Inv-loop μ-loop
+loop-again c =
+    let if2 = c .if2 in
+    let only-counts = c .before .only-counts in
+    let choice2 = c .before .before .before .choice2 in
+    let choose = c .before .before .before .before .before .choose in
+    let event-of = c .before .before .before .before .before .before .event-of in
+    let counted-by = c .before .before .before .before .before .before .before .counted-by in
+    let c₁ = c .before .before .before .before .before .before .before .before in
+    let states-of = c₁ .before .states-of in
+    let limit-falls = c₁ .before .before .limit-falls in
+    let if1 = c₁ .before .before .before .if1 in
+    let loop = c₁ .before .before .before .before .loop in (
+      loop .inv .0,
+      loop .inv .1,
+      λ h. loop .inv .2 (if1 .taken),
+      loop .inv .3,
+      rw (counted-by .ensures) (ahead-counts (loop .inv .4) (if1 .taken) (sym (rw (states-of .ensures, event-of .ensures) at (choose .ensures)) ∙ choice2 .given .1)
+          (sym (rw (limit-falls .ensures) at (only-counts .ensures)) ∙ if2 .taken)),
+    )
+
+context-from-requires : tie.Need-context-from-requires Inv-loop μ-loop
+context-from-requires c κs =
+    let c₁ = c .before .before .before .before .before .before .before .before in
+    let if1 = c₁ .before .before .before .if1 in
+    let loop = c₁ .before .before .before .before .loop in
+    omega (arith, if1 .taken, loop .inv .2 (if1 .taken))
+
+mul-p : tie.Need-mul-p Inv-loop μ-loop
+mul-p c =
+    let c₁ = c .before .before .before .before .before .before .before .before in
+    let if1 = c₁ .before .before .before .before .if1 in
+    let loop = c₁ .before .before .before .before .before .loop in
+    omega (arith, if1 .taken, loop .inv .2 (if1 .taken))
+
+array-copy-out-p : tie.Need-array-copy-out-p Inv-loop μ-loop
+array-copy-out-p c =
+    let c₁ = c .before .before .before .before .before .before .before .before in
+    let if1 = c₁ .before .before .before .before .if1 in
+    let loop = c₁ .before .before .before .before .before .loop in
+    omega (arith, if1 .taken, loop .inv .2 (if1 .taken))
+
+going-requires : tie.Need-going-requires Inv-loop μ-loop
+going-requires c κs =
+    let context-from = c .before .context-from in
+    let c₁ = c .before .before .before .before .before .before .before .before in
+    let if1 = c₁ .before .before .before .before .before .if1 in
+    let loop = c₁ .before .before .before .before .before .before .loop in
+    rw (context-from .ensures) (omega (arith, if1 .taken, loop .inv .2 (if1 .taken)))
+
+enum-known-x : tie.Need-enum-known-x Inv-loop μ-loop
+enum-known-x c = search needs
+
+stopped-requires-2 : tie.Need-stopped-requires-2 Inv-loop μ-loop
+stopped-requires-2 c κs = search needs
+
+returns-2 : tie.Need-returns-2 Inv-loop μ-loop
+returns-2 c =
     let x = c .before .before .x in
-    let turn = c .before .before .before .before .turn in
+    let going = c .before .before .before .before .going in
     let context-from = c .before .before .before .before .before .before .context-from in
     let c₁ = c .before .before .before .before .before .before .before .before in
-    let states-of = c₁ .before .before .states-of in
-    let limit-falls = c₁ .before .before .before .limit-falls in
-    let if1 = c₁ .before .before .before .before .if1 in
-    let loop = c₁ .before .before .before .before .before .loop in (
-      rw (ahead-stops (loop .inv .4) (if1 .taken)
-          (sym (rw (states-of .ensures, context-from .ensures, limit-falls .ensures) at (turn .ensures))
-          ∙ x .given .1))
-          (c .stopped .ensures),
-      ap (λ (r : Ran). r .framework .machines) (c .stopped .ensures),
+    let choice2 = c₁ .before .before .choice2 in
+    let choose = c₁ .before .before .before .before .choose in
+    let event-of = c₁ .before .before .before .before .before .event-of in
+    let counted-by = c₁ .before .before .before .before .before .before .counted-by in
+    let c₂ = c₁ .before .before .before .before .before .before .before .before in
+    let states-of = c₂ .states-of in
+    let if1 = c₂ .before .before .if1 in
+    let loop = c₂ .before .before .before .loop in (
+      c .stopped2 .ensures ∙ sym (ap (ranFrom _) (ahead-refused (loop .inv .4) (if1 .taken) (sym (rw (states-of .ensures, event-of .ensures) at (choose .ensures)) ∙ choice2 .given .1)
+          (sym (rw (states-of .ensures, context-from .ensures, counted-by .ensures) at (going .ensures 2 (at-most-two (loop .s)))) ∙ x .given .1))),
+      ap (λ (r : Ran). r .framework .machines) (c .stopped2 .ensures),
     )
 
 enum-known-x-2 : tie.Need-enum-known-x-2 Inv-loop μ-loop
 enum-known-x-2 c = search needs
 
+after-own-requires : tie.Need-after-own-requires Inv-loop μ-loop
+after-own-requires c κs =
+    let context-from = c .before .before .before .before .before .before .context-from in
+    let c₁ = c .before .before .before .before .before .before .before .before in
+    let c₂ = c₁ .before .before .before .before .before .before .before .before in
+    let if1 = c₂ .before .before .if1 in
+    let loop = c₂ .before .before .before .loop in
+    rw (context-from .ensures) (omega (arith, if1 .taken, loop .inv .2 (if1 .taken)))
+
+enum-known-y : tie.Need-enum-known-y Inv-loop μ-loop
+enum-known-y c = search needs
+
+stopped-requires-3 : tie.Need-stopped-requires-3 Inv-loop μ-loop
+stopped-requires-3 c κs = search needs
+
+returns-3 : tie.Need-returns-3 Inv-loop μ-loop
+returns-3 c =
+    let y = c .before .before .y in
+    let after-own = c .before .before .before .before .after-own in
+    let if3 = c .before .before .before .before .before .if3 in
+    let x2 = c .before .before .before .before .before .before .before .x2 in
+    let c₁ = c .before .before .before .before .before .before .before .before in
+    let going = c₁ .before .going in
+    let context-from = c₁ .before .before .before .context-from in
+    let choice2 = c₁ .before .before .before .before .before .before .before .choice2 in
+    let c₂ = c₁ .before .before .before .before .before .before .before .before in
+    let choose = c₂ .before .choose in
+    let event-of = c₂ .before .before .event-of in
+    let counted-by = c₂ .before .before .before .counted-by in
+    let states-of = c₂ .before .before .before .before .before .states-of in
+    let limit-falls = c₂ .before .before .before .before .before .before .limit-falls in
+    let if1 = c₂ .before .before .before .before .before .before .before .if1 in
+    let c₃ = c₂ .before .before .before .before .before .before .before .before in
+    let loop = c₃ .loop in (
+      c .stopped3 .ensures ∙ sym (ap (ranFrom _) (ahead-own-refused (loop .inv .4) (if1 .taken) (sym (rw (states-of .ensures, event-of .ensures) at (choose .ensures)) ∙ choice2 .given .1)
+          (sym (rw (states-of .ensures, context-from .ensures, counted-by .ensures) at (going .ensures 2 (at-most-two (loop .s)))) ∙ x2 .given .1) (sym (limit-falls .ensures) ∙ if3 .taken)
+          (sym (rw (states-of .ensures, context-from .ensures) at (after-own .ensures)) ∙ y .given .1))),
+      ap (λ (r : Ran). r .framework .machines) (c .stopped3 .ensures),
+    )
+
+enum-known-y-2 : tie.Need-enum-known-y-2 Inv-loop μ-loop
+enum-known-y-2 c = search needs
+
 mul-r2 : tie.Need-mul-r2 Inv-loop μ-loop
 mul-r2 c =
     let c₁ = c .before .before .before .before .before .before .before .before in
-    let if1 = c₁ .before .before .before .before .before .if1 in
-    let loop = c₁ .before .before .before .before .before .before .loop in
+    let c₂ = c₁ .before .before .before .before .before .before .before .before in
+    let if1 = c₂ .before .before .before .before .before .before .before .if1 in
+    let c₃ = c₂ .before .before .before .before .before .before .before .before in
+    let loop = c₃ .loop in
     omega (arith, if1 .taken, loop .inv .2 (if1 .taken))
 
 element-set-from-r2 : tie.Need-element-set-from-r2 Inv-loop μ-loop
 element-set-from-r2 c =
     let c₁ = c .before .before .before .before .before .before .before .before in
-    let if1 = c₁ .before .before .before .before .before .if1 in
-    let loop = c₁ .before .before .before .before .before .before .loop in
+    let c₂ = c₁ .before .before .before .before .before .before .before .before in
+    let if1 = c₂ .before .before .before .before .before .before .before .if1 in
+    let c₃ = c₂ .before .before .before .before .before .before .before .before in
+    let loop = c₃ .loop in
     omega (arith, if1 .taken, loop .inv .2 (if1 .taken))
 
 mul-actions : tie.Need-mul-actions Inv-loop μ-loop
 mul-actions c =
     let c₁ = c .before .before .before .before .before .before .before .before in
-    let if1 = c₁ .before .before .before .before .before .if1 in
-    let loop = c₁ .before .before .before .before .before .before .loop in
+    let c₂ = c₁ .before .before .before .before .before .before .before .before in
+    let c₃ = c₂ .before .before .before .before .before .before .before .before in
+    let if1 = c₃ .if1 in
+    let loop = c₃ .before .loop in
     omega (arith, if1 .taken, loop .inv .2 (if1 .taken))
 
 array-set-from-actions : tie.Need-array-set-from-actions Inv-loop μ-loop
 array-set-from-actions c =
     let c₁ = c .before .before .before .before .before .before .before .before in
-    let if1 = c₁ .before .before .before .before .before .if1 in
-    let loop = c₁ .before .before .before .before .before .before .loop in
+    let c₂ = c₁ .before .before .before .before .before .before .before .before in
+    let c₃ = c₂ .before .before .before .before .before .before .before .before in
+    let if1 = c₃ .if1 in
+    let loop = c₃ .before .loop in
     omega (arith, if1 .taken, loop .inv .2 (if1 .taken))
 
 add-m-2 : tie.Need-add-m-2 Inv-loop μ-loop
 add-m-2 c =
     let c₁ = c .before .before .before .before .before .before .before .before in
-    let if1 = c₁ .before .before .before .before .before .before .if1 in
-    let loop = c₁ .before .before .before .before .before .before .before .loop in
+    let c₂ = c₁ .before .before .before .before .before .before .before .before in
+    let c₃ = c₂ .before .before .before .before .before .before .before .before in
+    let if1 = c₃ .before .if1 in
+    let loop = c₃ .before .before .loop in
     omega (arith, if1 .taken, loop .inv .2 (if1 .taken))
 
 loop-less-2 : tie.Need-loop-less-2 Inv-loop μ-loop
 loop-less-2 c =
     let c₁ = c .before .before .before .before .before .before .before .before in
-    let if1 = c₁ .before .before .before .before .before .before .if1 in
+    let c₂ = c₁ .before .before .before .before .before .before .before .before in
+    let c₃ = c₂ .before .before .before .before .before .before .before .before in
+    let if1 = c₃ .before .if1 in
     omega (arith, if1 .taken)
 
 loop-again-2 : tie.Need-loop-again-2 Inv-loop μ-loop
 loop-again-2 c =
-    let x2 = c .before .before .before .before .x2 in
-    let turn = c .before .before .before .before .before .before .turn in
+    let y2 = c .before .before .before .before .y2 in
+    let after-own = c .before .before .before .before .before .before .after-own in
+    let if3 = c .before .before .before .before .before .before .before .if3 in
     let c₁ = c .before .before .before .before .before .before .before .before in
-    let context-from = c₁ .context-from in
-    let states-of = c₁ .before .before .before .before .states-of in
-    let limit-falls = c₁ .before .before .before .before .before .limit-falls in
-    let if1 = c₁ .before .before .before .before .before .before .if1 in
-    let loop = c₁ .before .before .before .before .before .before .before .loop in (
+    let x2 = c₁ .before .x2 in
+    let going = c₁ .before .before .before .going in
+    let context-from = c₁ .before .before .before .before .before .context-from in
+    let c₂ = c₁ .before .before .before .before .before .before .before .before in
+    let choice2 = c₂ .before .choice2 in
+    let choose = c₂ .before .before .before .choose in
+    let event-of = c₂ .before .before .before .before .event-of in
+    let counted-by = c₂ .before .before .before .before .before .counted-by in
+    let states-of = c₂ .before .before .before .before .before .before .before .states-of in
+    let c₃ = c₂ .before .before .before .before .before .before .before .before in
+    let limit-falls = c₃ .limit-falls in
+    let if1 = c₃ .before .if1 in
+    let loop = c₃ .before .before .loop in (
       loop .inv .0,
       loop .inv .1,
       λ h. loop .inv .2 (if1 .taken),
       loop .inv .3,
-      ahead-turn (loop .inv .4) (if1 .taken)
-          (sym (rw (states-of .ensures, context-from .ensures, limit-falls .ensures) at (turn .ensures))
-          ∙ x2 .given .1),
+      ahead-own (loop .inv .4) (if1 .taken) (sym (rw (states-of .ensures, event-of .ensures) at (choose .ensures)) ∙ choice2 .given .1)
+          (sym (rw (states-of .ensures, context-from .ensures, counted-by .ensures) at (going .ensures 2 (at-most-two (loop .s)))) ∙ x2 .given .1) (sym (limit-falls .ensures) ∙ if3 .taken)
+          (sym (rw (states-of .ensures, context-from .ensures) at (after-own .ensures)) ∙ y2 .given .1),
     )
 
-returns-2 : tie.Need-returns-2 Inv-loop μ-loop
-returns-2 c =
+mul-r2-2 : tie.Need-mul-r2-2 Inv-loop μ-loop
+mul-r2-2 c =
+    let c₁ = c .before .before .before .before .before .before .before .before in
+    let c₂ = c₁ .before .before .before .before .before .before .before .before in
+    let if1 = c₂ .before .before .before .if1 in
+    let loop = c₂ .before .before .before .before .loop in
+    omega (arith, if1 .taken, loop .inv .2 (if1 .taken))
+
+element-set-from-r2-2 : tie.Need-element-set-from-r2-2 Inv-loop μ-loop
+element-set-from-r2-2 c =
+    let c₁ = c .before .before .before .before .before .before .before .before in
+    let c₂ = c₁ .before .before .before .before .before .before .before .before in
+    let if1 = c₂ .before .before .before .if1 in
+    let loop = c₂ .before .before .before .before .loop in
+    omega (arith, if1 .taken, loop .inv .2 (if1 .taken))
+
+mul-actions-2 : tie.Need-mul-actions-2 Inv-loop μ-loop
+mul-actions-2 c =
+    let c₁ = c .before .before .before .before .before .before .before .before in
+    let c₂ = c₁ .before .before .before .before .before .before .before .before in
+    let if1 = c₂ .before .before .before .before .if1 in
+    let loop = c₂ .before .before .before .before .before .loop in
+    omega (arith, if1 .taken, loop .inv .2 (if1 .taken))
+
+array-set-from-actions-2 : tie.Need-array-set-from-actions-2 Inv-loop μ-loop
+array-set-from-actions-2 c =
+    let c₁ = c .before .before .before .before .before .before .before .before in
+    let c₂ = c₁ .before .before .before .before .before .before .before .before in
+    let if1 = c₂ .before .before .before .before .if1 in
+    let loop = c₂ .before .before .before .before .before .loop in
+    omega (arith, if1 .taken, loop .inv .2 (if1 .taken))
+
+add-m-3 : tie.Need-add-m-3 Inv-loop μ-loop
+add-m-3 c =
+    let c₁ = c .before .before .before .before .before .before .before .before in
+    let c₂ = c₁ .before .before .before .before .before .before .before .before in
+    let if1 = c₂ .before .before .before .before .before .if1 in
+    let loop = c₂ .before .before .before .before .before .before .loop in
+    omega (arith, if1 .taken, loop .inv .2 (if1 .taken))
+
+loop-less-3 : tie.Need-loop-less-3 Inv-loop μ-loop
+loop-less-3 c =
+    let c₁ = c .before .before .before .before .before .before .before .before in
+    let c₂ = c₁ .before .before .before .before .before .before .before .before in
+    let if1 = c₂ .before .before .before .before .before .if1 in
+    omega (arith, if1 .taken)
+
+loop-again-3 : tie.Need-loop-again-3 Inv-loop μ-loop
+loop-again-3 c =
+    let if3 = c .before .before .before .if3 in
+    let x2 = c .before .before .before .before .before .x2 in
+    let going = c .before .before .before .before .before .before .before .going in
+    let c₁ = c .before .before .before .before .before .before .before .before in
+    let context-from = c₁ .before .context-from in
+    let choice2 = c₁ .before .before .before .before .before .choice2 in
+    let choose = c₁ .before .before .before .before .before .before .before .choose in
+    let c₂ = c₁ .before .before .before .before .before .before .before .before in
+    let event-of = c₂ .event-of in
+    let counted-by = c₂ .before .counted-by in
+    let states-of = c₂ .before .before .before .states-of in
+    let limit-falls = c₂ .before .before .before .before .limit-falls in
+    let if1 = c₂ .before .before .before .before .before .if1 in
+    let loop = c₂ .before .before .before .before .before .before .loop in (
+      loop .inv .0,
+      loop .inv .1,
+      λ h. loop .inv .2 (if1 .taken),
+      loop .inv .3,
+      ahead-done (loop .inv .4) (if1 .taken) (sym (rw (states-of .ensures, event-of .ensures) at (choose .ensures)) ∙ choice2 .given .1)
+          (sym (rw (states-of .ensures, context-from .ensures, counted-by .ensures) at (going .ensures 2 (at-most-two (loop .s)))) ∙ x2 .given .1) (sym (limit-falls .ensures) ∙ if3 .left),
+    )
+
+returns-4 : tie.Need-returns-4 Inv-loop μ-loop
+returns-4 c =
+    let if4 = c .if4 in
     let if1 = c .before .if1 in
     let loop = c .before .before .loop in
-    (rw (ahead-ends (loop .inv .4) (if1 .left) (c .if3 .taken)), loop .inv .3)
+    (rw (ahead-ends (loop .inv .4) (if1 .left) (if4 .taken)), loop .inv .3)
 
 mul-kind : tie.Need-mul-kind Inv-loop μ-loop
 mul-kind c = search needs
@@ -272,21 +458,21 @@ active-after-requires c κs = search needs
 add-i : tie.Need-add-i Inv-loop μ-loop
 add-i c =
     let c₁ = c .before .before .before .before .before .before .before .before in
-    let if3 = c₁ .before .before .before .if3 in
+    let if4 = c₁ .before .before .before .if4 in
     let c₂ = c₁ .before .before .before .before .before .before .before .before in
     let good = c₂ .before .before .before .before .before .before .good in
-    omega (arith, if3 .left, good .1 .1 .1 .1 .1 .0 .0)
+    omega (arith, if4 .left, good .1 .1 .1 .1 .1 .0 .0)
 
-loop-less-3 : tie.Need-loop-less-3 Inv-loop μ-loop
-loop-less-3 c =
+loop-less-4 : tie.Need-loop-less-4 Inv-loop μ-loop
+loop-less-4 c =
     let end-for = c .before .before .before .before .before .end-for in
     let first-for = c .before .before .before .before .before .before .before .first-for in
     let c₁ = c .before .before .before .before .before .before .before .before in
-    let if3 = c₁ .before .before .before .if3 in
-    omega (arith, if3 .left, end-for .ensures .1 .0, first-for .ensures)
+    let if4 = c₁ .before .before .before .if4 in
+    omega (arith, if4 .left, end-for .ensures .1 .0, first-for .ensures)
 
-loop-again-3 : tie.Need-loop-again-3 Inv-loop μ-loop
-loop-again-3 c =
+loop-again-4 : tie.Need-loop-again-4 Inv-loop μ-loop
+loop-again-4 c =
     let started-after = c .before .started-after in
     let duration-after = c .before .before .duration-after in
     let padding-after = c .before .before .before .padding-after in
@@ -296,16 +482,16 @@ loop-again-3 c =
     let first-for = c .before .before .before .before .before .before .before .first-for in
     let c₁ = c .before .before .before .before .before .before .before .before in
     let blocked-since = c₁ .blocked-since in
-    let if3 = c₁ .before .before .before .if3 in
+    let if4 = c₁ .before .before .before .if4 in
     let if1 = c₁ .before .before .before .before .if1 in
     let loop = c₁ .before .before .before .before .before .loop in
     let c₂ = c₁ .before .before .before .before .before .before .before .before in
     let pre = c₂ .before .before .before .before .before .before .pre in (
-      omega (arith, if3 .left),
-      kind-fits _ _ _ (if3 .left) (pre),
+      omega (arith, if4 .left),
+      kind-fits _ _ _ (if4 .left) (pre),
       λ h. end-for .ensures .1 .1 (rw (← first-for .ensures) h),
       loop .inv .3,
-      ahead-event (loop .inv .4) (if1 .left) (if3 .left)
+      ahead-event (loop .inv .4) (if1 .left) (if4 .left)
           (blocked-since .ensures) (first-for .ensures) (rw (smaller .ensures) at (end-for .ensures .0))
           (normal-after .ensures) (padding-after .ensures) (duration-after .ensures)
           (started-after .ensures) (c .active-after .ensures),
@@ -324,8 +510,14 @@ run-events-spec =
     states-of-requires
     mul-r
     element-copy-out-r
-    idle-requires
     counted-by-requires
+    event-of-requires
+    choose-requires
+    enum-known-choice
+    stopped-requires
+    returns
+    enum-known-choice-2
+    only-counts-requires
     mul-counted
     element-set-from-counted
     add-m
@@ -334,11 +526,16 @@ run-events-spec =
     context-from-requires
     mul-p
     array-copy-out-p
-    turn-requires
+    going-requires
     enum-known-x
-    stopped-requires
-    returns
+    stopped-requires-2
+    returns-2
     enum-known-x-2
+    after-own-requires
+    enum-known-y
+    stopped-requires-3
+    returns-3
+    enum-known-y-2
     mul-r2
     element-set-from-r2
     mul-actions
@@ -346,7 +543,14 @@ run-events-spec =
     add-m-2
     loop-less-2
     loop-again-2
-    returns-2
+    mul-r2-2
+    element-set-from-r2-2
+    mul-actions-2
+    array-set-from-actions-2
+    add-m-3
+    loop-less-3
+    loop-again-3
+    returns-4
     mul-kind
     mul-kind-2
     shared-slice-read-kind
@@ -364,5 +568,5 @@ run-events-spec =
     started-after-requires
     active-after-requires
     add-i
-    loop-less-3
-    loop-again-3)
+    loop-less-4
+    loop-again-4)

@@ -6,7 +6,8 @@ use mathlib.Core.Path.{_≡_, refl, sym, ap, _∙_}
 use native.Mathlib.Omega.{arith}
 use Rattle.steps.specs.Events.{signals}
 use Rattle.framework.specs.Run.{tables, tapes, run}
-use Rattle.framework.proofs.Heard.{two-left, known-is, Heard, heard-all, heard-skip, heard-turn, heard-stops}
+use Rattle.transition.specs.Transition.{at-most-two}
+use Rattle.framework.proofs.Heard.{known-is, Heard, heard-all, heard-skip, heard-turn, heard-stops}
 use Rattle.framework.proofs.Heard.{heard-last, heard-quiet, heard-dropped, heard-again}
 use Rattle.framework.proofs.signals.run_signals.Statement.{statement}
 use Rattle.framework.proofs.signals.run_signals.Tie as tie
@@ -96,7 +97,7 @@ returns c =
     let if1 = c₁ .before .if1 in
     let loop = c₁ .before .before .loop in (
       rw (heard-stops (loop .inv .2) (if1 .taken) (if2 .left)
-          (sym (rw (states-of .ensures, context-from .ensures) at (transition .ensures 2 (two-left (loop .t))))
+          (sym (rw (states-of .ensures, context-from .ensures) at (transition .ensures 2 (at-most-two (loop .t))))
           ∙ x .given .1)),
       refl,
     )
@@ -158,7 +159,7 @@ loop-again-2 c =
       loop .inv .0,
       loop .inv .1,
       heard-turn (loop .inv .2) (if1 .taken) (if2 .left)
-          (sym (rw (states-of .ensures, context-from .ensures) at (transition .ensures 2 (two-left (loop .t))))
+          (sym (rw (states-of .ensures, context-from .ensures) at (transition .ensures 2 (at-most-two (loop .t))))
           ∙ x2 .given .1),
     )
 
