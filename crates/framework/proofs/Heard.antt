@@ -1,8 +1,8 @@
 -- A round of signals, a machine at a time, and the machine left out at last.
-use Prim.Native.Nat.{ℕ, zero, suc, _+_, _-_, _≤_, _<_}
-use mathlib.Core.Path.{_≡_, refl, sym, ap, _∙_}
+use Prim.Native.Nat.{ℕ, _+_, _-_, _≤_, _<_}
+use mathlib.Core.Path.{_≡_, refl, sym, _∙_}
 use mathlib.Core.List.{List}
-use mathlib.Core.Bool.{Bool, true, false, false≢true, cond, _&&_}
+use mathlib.Core.Bool.{true, false, false≢true, cond, _&&_}
 use mathlib.Core.Logic.{⊎-elim}
 use native.Mathlib.Nat.{sub-zero}
 use native.Mathlib.Omega.{arith}
@@ -10,7 +10,7 @@ use lib.Dec.{eqb, leb, ltb}
 use lib.ListN.{getD, set}
 use borrow.Author.Tests.{eq-eqb, ne-eqb, eqb-true, leb-true, ltb-true}
 use Rattle.machine.specs.Event.{signal}
-use Rattle.steps.specs.Transition.{noAction, withSignal, left, unspent, transition}
+use Rattle.steps.specs.Transition.{noAction, withSignal, transition}
 use Rattle.steps.specs.Events.{Tables, Tapes, Run, Outcome, stop, go, andThen, each, numMachines, runtimeAt, withRuntime}
 use Rattle.steps.specs.Events.{envOf, signalMachine, signalTurn, lastSignal, signals}
 use Rattle.steps.specs.declared.Framework.{Framework}

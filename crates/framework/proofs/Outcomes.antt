@@ -1,9 +1,8 @@
 -- What the code answers of a run tells its outcome.
 use Prim.Native.Nat.{ℕ}
-use mathlib.Core.Path.{_≡_, refl, sym, ap, _∙_}
+use mathlib.Core.Path.{_≡_, sym, ap, _∙_}
 use Rattle.steps.specs.Events.{Run, Outcome, stop, go}
 use Rattle.steps.specs.declared.Ran.{Ran}
-use Rattle.steps.specs.declared.Verdict.{Verdict}
 use Rattle.steps.specs.declared.Verdict.the-variants.{Complete, Stopped}
 use Rattle.framework.specs.Run.{runOf, ranFrom}
 

@@ -1,6 +1,6 @@
 -- The run over events, a turn at a time: of the event taken some machines are left, then the events that follow.
 use Prim.Native.Nat.{ℕ, zero, suc, _+_, _-_, _≤_, _<_}
-use mathlib.Core.Path.{_≡_, refl, sym, ap, _∙_}
+use mathlib.Core.Path.{_≡_, refl, _∙_}
 use mathlib.Core.List.{List}
 use mathlib.Core.Bool.{Bool, true, false, false≢true}
 use native.Mathlib.Nat.{sub-zero}
@@ -12,7 +12,7 @@ use Rattle.machine.specs.declared.state.Next.{Next}
 use Rattle.machine.specs.declared.state.Next.the-variants.{State, Nothing}
 use Rattle.steps.specs.Transition.{Env, noAction, done, withChanceAt}
 use Rattle.steps.specs.Events.{Tables, Tapes, Run, Outcome, stop, go, andThen, each, numMachines, runtimeAt, withRuntime, statesOf}
-use Rattle.steps.specs.Events.{envOf, countedBy, limitFalls, afterTransition, turn, machineTurn, firstFor, turnsFor, processEvent, kindAt, machineAt, eventTurn, blockedFor}
+use Rattle.steps.specs.Events.{envOf, countedBy, limitFalls, afterTransition, turn, machineTurn, firstFor, turnsFor, processEvent, kindAt, machineAt, eventTurn}
 use Rattle.steps.specs.declared.Framework.{Framework}
 use Rattle.steps.specs.declared.MachineRuntime.{MachineRuntime}
 use Rattle.steps.specs.declared.Shared.{Shared}

@@ -1,6 +1,6 @@
 -- What an event counts and what a turn reads, field by field: `accounted` and `contextOf` of `steps` over numbers, so that
 -- no step of the code takes the whole framework.
-use Prim.Native.Nat.{ℕ, _+_, _-_, _*_}
+use Prim.Native.Nat.{ℕ, _-_}
 use mathlib.Core.List.{List}
 use mathlib.Core.Bool.{Bool, true, false, cond, not}
 use lib.Dec.{eqb}

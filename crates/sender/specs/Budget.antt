@@ -7,7 +7,7 @@ use lib.Dec.{T, eqb}
 use lib.Ieee.{Float, binary64, fits}
 use Rattle.steps.specs.Events.{Tables}
 use Rattle.steps.specs.Framework.{opening}
-use Rattle.steps.specs.Budget.{Call, answerOf, frameworkOf, Ledger, empty, counted, returned, returnsPadding, afterCall, ledger, Spends, Lists, packets, Budgets}
+use Rattle.steps.specs.Budget.{Call, answerOf, Ledger, empty, counted, returned, returnsPadding, afterCall, ledger, Spends, Lists, packets, Budgets}
 use Rattle.steps.specs.Budget.Theorem.{no-budget-overdrawn}
 use Rattle.steps.specs.declared.Framework.{Framework}
 use Rattle.sender.specs.Reply.{replyOf}

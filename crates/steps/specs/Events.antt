@@ -2,7 +2,7 @@
 -- pending actions and what the call shares; a refusal inside it stops it.
 use Prim.Native.Nat.{ℕ, zero, suc, _+_, _-_, _*_, min}
 use mathlib.Core.List.{List}
-use mathlib.Core.Bool.{Bool, true, false, cond, not, _&&_, _||_}
+use mathlib.Core.Bool.{Bool, cond, not, _&&_, _||_}
 use lib.ListN.{getD, set}
 use lib.Dec.{ltb, leb, eqb}
 use lib.Ieee.{Float, binary64, ofBits}
@@ -16,7 +16,6 @@ use Rattle.steps.specs.declared.Framework.{Framework}
 use Rattle.steps.specs.declared.Context.{Context}
 use Rattle.steps.specs.declared.Shared.{Shared}
 use Rattle.steps.specs.declared.TriggerAction.{TriggerAction}
-use Rattle.steps.specs.declared.Step.{Step}
 use Rattle.steps.specs.declared.Stepped.{Stepped}
 use Rattle.steps.specs.declared.Stepped.the-variants.{Refused, Done}
 

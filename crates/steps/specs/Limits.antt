@@ -1,5 +1,5 @@
 -- framework.rs: whether the limits let a state's action be scheduled (below_action_limits, below_limit_blocking, below_limit_padding).
-use Prim.Native.Nat.{ℕ, _+_, _-_, _/_, _%_}
+use Prim.Native.Nat.{ℕ, _-_, _/_, _%_}
 use mathlib.Core.List.{List}
 use mathlib.Core.Bool.{Bool, true, false, cond, not, _&&_}
 use lib.ListN.{getD}

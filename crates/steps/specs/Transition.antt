@@ -4,10 +4,10 @@ use Prim.Native.Nat.{ℕ, zero, suc, _+_, _-_, _*_, _/_, _%_}
 use mathlib.Core.List.{List}
 use mathlib.Core.Bool.{Bool, true, false, cond, not, _&&_, _||_}
 use lib.ListN.{getD}
-use lib.Dec.{ltb, eqb}
+use lib.Dec.{eqb}
 use lib.Ieee.{Float}
 use Rattle.numbers.specs.Saturating.{saturatingAdd}
-use Rattle.machine.specs.Constants.{timer, counterA, counterB, cancel, sendPadding, blockOutgoing, updateTimer, increment, decrement, stateEnd, stateSignal}
+use Rattle.machine.specs.Constants.{timer, counterA, counterB, cancel, updateTimer, increment, decrement, stateEnd, stateSignal}
 use Rattle.machine.specs.Event.{limitReached, counterZero}
 use Rattle.machine.specs.Action.{actionOf, sampleTimeout, sampleDuration, sampleLimit, hasLimit}
 use Rattle.machine.specs.Counter.{sampleValue}
@@ -19,12 +19,11 @@ use Rattle.machine.specs.declared.state.ChanceDrawn.{ChanceDrawn}
 use Rattle.machine.specs.declared.state.ChanceDrawn.the-variants.{NoChance, GotChance}
 use Rattle.machine.specs.declared.state.Next.{Next}
 use Rattle.machine.specs.declared.state.Next.the-variants.{State, Nothing}
-use Rattle.steps.specs.Limits.{flagsOf, replaceOf, belowActionLimits}
+use Rattle.steps.specs.Limits.{flagsOf, belowActionLimits}
 use Rattle.steps.specs.declared.MachineRuntime.{MachineRuntime}
 use Rattle.steps.specs.declared.Context.{Context}
 use Rattle.steps.specs.declared.Shared.{Shared}
 use Rattle.steps.specs.declared.TriggerAction.{TriggerAction}
-use Rattle.steps.specs.declared.Step.{Step}
 use Rattle.steps.specs.declared.Stepped.{Stepped}
 use Rattle.steps.specs.declared.Stepped.the-variants.{Refused, Done}
 use Rattle.steps.specs.declared.Counter.{Counter}

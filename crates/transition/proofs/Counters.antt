@@ -6,7 +6,7 @@ use native.Mathlib.Nat.{lt-irrefl}
 use native.Mathlib.Omega.{arith}
 use mathlib.Core.List.{List}
 use mathlib.Core.Bool.{Bool, true, false, cond, not, _&&_, _||_}
-use mathlib.Core.Path.{_≡_, refl, sym, ap, _∙_, subst}
+use mathlib.Core.Path.{_≡_, refl, subst}
 use lib.ListN.{getD}
 use lib.Dec.{eqb}
 use lib.Ieee.{Float}
@@ -16,14 +16,11 @@ use Rattle.machine.specs.declared.dist.WholeDrawn.{WholeDrawn}
 use Rattle.machine.specs.declared.dist.WholeDrawn.the-variants.{NoWhole, GotWhole}
 use Rattle.steps.specs.Transition.{Env, applied, counterOf, changedBy, changeOf, updateOne, unspent, left, withCounters, withZeroed, afterZero, updateCounter, zeroTransition, transitionAt, updateCounterAt}
 use Rattle.steps.specs.declared.Counter.{Counter}
-use Rattle.steps.specs.declared.Counted.{Counted}
-use Rattle.steps.specs.declared.Counted.the-variants.{Uncounted, NewValue}
+use Rattle.steps.specs.declared.Counted.the-variants.{NewValue}
 use Rattle.steps.specs.declared.MachineRuntime.{MachineRuntime}
 use Rattle.steps.specs.declared.Shared.{Shared}
 use Rattle.steps.specs.declared.TriggerAction.{TriggerAction}
 use Rattle.steps.specs.declared.Stepped.{Stepped}
-use Rattle.steps.specs.declared.Update.{Update}
-use Rattle.steps.specs.declared.Updated.{Updated}
 use Rattle.steps.specs.declared.Updated.the-variants.{Counters}
 
 -- ---- one counter

@@ -1,6 +1,5 @@
 -- `accepted` meets its contract: the rows are those of the run's machines.
 use borrow.Author.Needs.{needs}
-use mathlib.Core.Path.{refl, _∙_}
 use native.Mathlib.Omega.{arith}
 use Rattle.framework.proofs.accepted.Statement.{statement}
 use Rattle.framework.proofs.accepted.Tie as tie

@@ -1,6 +1,5 @@
 -- `all_machines_ended` meets its contract.
 use borrow.Author.Needs.{needs}
-use mathlib.Core.Path.{_∙_}
 use Rattle.steps.specs.Framework.{allMachinesEnded}
 use Rattle.framework.proofs.all_machines_ended.Statement.{statement}
 use Rattle.framework.proofs.all_machines_ended.Tie as tie

@@ -1,6 +1,6 @@
 -- `batch` meets its contract: refused before the run, stopped in it, or accepted.
 use borrow.Author.Needs.{needs}
-use mathlib.Core.Path.{_≡_, refl, sym, ap, _∙_}
+use mathlib.Core.Path.{refl, sym, _∙_}
 use borrow.Author.Tests.{eq-eqb, ne-eqb}
 use Rattle.steps.specs.Framework.{triggerEvents, batch}
 use Rattle.framework.specs.Run.{tables, tapes, entered}

@@ -1,7 +1,6 @@
 -- `batch_refusal` meets its contract: the tables first, then 18, 19 and 20.
 use borrow.Author.Needs.{needs}
-use mathlib.Core.Path.{_≡_, refl, sym, ap, _∙_}
-use mathlib.Core.List.{List}
+use mathlib.Core.Path.{refl, sym, _∙_}
 use borrow.Author.Tests.{lt-ltb, le-ltb}
 use Rattle.steps.specs.Framework.{batchRefusal}
 use Rattle.framework.proofs.Checked.{first-is, then-is, few-machines}

@@ -1,6 +1,6 @@
 -- `opening` meets its contract: the fractions first, then the tables, then the machines.
 use borrow.Author.Needs.{needs}
-use mathlib.Core.Path.{_≡_, refl, sym, _∙_}
+use mathlib.Core.Path.{_≡_, sym, _∙_}
 use borrow.Author.Tests.{eq-eqb, ne-eqb}
 use Rattle.tables.specs.Framework.{fractionsRefusal}
 use Rattle.steps.specs.Framework.{opening}

@@ -1,7 +1,7 @@
 -- `trigger_events` meets its contract: a stop among the events is a stop of the whole, and with no signal pending
 -- they are all of it.
 use borrow.Author.Needs.{needs}
-use mathlib.Core.Path.{_≡_, refl, sym, ap, _∙_}
+use mathlib.Core.Path.{ap, _∙_}
 use borrow.Author.Tests.{eq-eqb}
 use Prim.Native.Nat.{_/_}
 use lib.ListN.{length}

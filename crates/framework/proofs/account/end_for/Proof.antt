@@ -1,7 +1,6 @@
 -- `end_for` meets its contract: each arm follows `own_only` and, for a kind of one machine, whether that machine is
 -- known.
 use borrow.Author.Needs.{needs}
-use Prim.Native.Nat.{_≤_, _<_}
 use mathlib.Core.Path.{sym, refl, _∙_}
 use native.Mathlib.Omega.{arith}
 use borrow.Author.Tests.{lt-ltb, le-ltb}

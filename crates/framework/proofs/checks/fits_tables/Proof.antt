@@ -1,7 +1,6 @@
 -- `fits_tables` meets its contract, arm by arm.
 use borrow.Author.Needs.{needs}
-use mathlib.Core.Path.{_≡_, refl, sym, _∙_}
-use mathlib.Core.List.{List}
+use mathlib.Core.Path.{sym, _∙_}
 use borrow.Author.Tests.{eq-eqb, ne-eqb}
 use Rattle.steps.specs.Framework.{fitsTables}
 use Rattle.framework.proofs.checks.fits_tables.Statement.{statement}

@@ -2,10 +2,9 @@
 -- `end` of the event taken last, then the events from i on. The measure counts 17 for each event left, and the machines
 -- left.
 use borrow.Author.Needs.{needs}
-use Prim.Native.Nat.{ℕ, _+_, _*_, _-_, _/_, _≤_, _<_}
+use Prim.Native.Nat.{_+_, _*_, _-_, _≤_, _<_}
 use mathlib.Core.Path.{_≡_, refl, sym, ap, _∙_}
 use native.Mathlib.Omega.{arith}
-use lib.ListN.{length}
 use Rattle.steps.specs.Events.{each, eventTurn}
 use Rattle.steps.specs.Framework.{begin}
 use Rattle.steps.specs.declared.Ran.{Ran}

@@ -1,11 +1,10 @@
 -- `put_rows` meets its contract. The loop's invariant: the rows of the first m machines are written, `at` is where
 -- they end, and what came after them stands.
 use borrow.Author.Needs.{needs}
-use Prim.Native.Nat.{ℕ, _+_, _*_, _-_, _/_, _≤_, _<_}
+use Prim.Native.Nat.{ℕ, _*_, _-_, _/_, _≤_}
 use mathlib.Core.Path.{_≡_, refl, ap, _∙_}
-use mathlib.Core.List.{List}
 use native.Mathlib.Omega.{arith}
-use lib.ListN.{length, getD, take, drop, length-take, length-drop}
+use lib.ListN.{length, getD, length-take, length-drop}
 use Rattle.steps.specs.Transition.{noAction}
 use Rattle.steps.specs.Framework.{actionRows, written}
 use Rattle.framework.proofs.Written.{row-short, rows-longer, row-written, same}

@@ -1,8 +1,8 @@
 -- `run_signals` meets its contract. The loop's invariant: the whole round is what the machines from m to `end` are
 -- still to hear, and what follows it. The measure counts 17 for the last signal, and the machines left.
 use borrow.Author.Needs.{needs}
-use Prim.Native.Nat.{ℕ, _+_, _*_, _-_, _≤_, _<_, min}
-use mathlib.Core.Path.{_≡_, refl, sym, ap, _∙_}
+use Prim.Native.Nat.{_+_, _*_, _-_, _≤_, min}
+use mathlib.Core.Path.{_≡_, refl, sym, _∙_}
 use native.Mathlib.Omega.{arith}
 use Rattle.steps.specs.Events.{signals}
 use Rattle.framework.specs.Run.{tables, tapes, run}
