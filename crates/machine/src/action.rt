@@ -13,22 +13,18 @@ use super::constants::UPDATE_TIMER;
 use super::dist::ValueDrawn;
 use super::dist::Whole;
 use super::dist::WholeDrawn;
-use super::dist::dist_at;
-use super::dist::sample;
+use super::dist::sample_at;
 use super::state::word;
 ghost use mathlib.Core.Path.{_≡_};
-ghost use Prim.Native.Nat.{_≤_};
-ghost use Rattle.machine.specs.Constants.{stateWords};
-ghost use Rattle.machine.specs.Action.{hasTimeout, hasDuration, mayLimit, hasLimit};
-ghost use Rattle.machine.specs.Action.{sampleRounded, sampleTimeout, sampleDuration, sampleLimit};
+ghost use Prim.Native.Nat.{min};
+ghost use Rattle.numbers.specs.Round.{roundAway};
+ghost use Rattle.machine.specs.Dist.{wholeOf};
+ghost use Rattle.machine.specs.Action.{sampleTimeout, sampleDuration, hasLimit, sampleLimit};
 
-// The sample of the distribution at word k, to the nearest whole number, halves away from zero, at
-// most `most`.
-pub fn sample_rounded(row: &[u64], k: usize, most: u64, values: &[f64], at: usize) -> WholeDrawn
-    requires { ⌜ k ≤ stateWords ⌝ }
-    ensures { λ r. ⌜ r ≡ sampleRounded (now (row .entry)) k most (now (values .entry)) at ⌝ }
+// A drawn value to the nearest whole number, halves away from zero, at most `most`.
+fn rounded(drawn: ValueDrawn, most: u64) -> WholeDrawn
+    ensures { λ r. ⌜ r ≡ wholeOf (λ x. min (roundAway x) most) drawn ⌝ }
 {
-    let drawn = sample(dist_at(row, k), values, at);
     match drawn {
         ValueDrawn::NoValue(n) => WholeDrawn::NoWhole(n),
         ValueDrawn::GotValue(v) => {
@@ -41,57 +37,35 @@ pub fn sample_rounded(row: &[u64], k: usize, most: u64, values: &[f64], at: usiz
     }
 }
 
-// SendPadding and BlockOutgoing come after a timeout.
-pub fn has_timeout(row: &[u64]) -> bool
-    ensures { λ r. ⌜ r ≡ hasTimeout (now (row .entry)) ⌝ }
-{
-    let action = word(row, ACTION);
-    action == SEND_PADDING || action == BLOCK_OUTGOING
-}
-
-// BlockOutgoing and UpdateTimer last for a duration.
-pub fn has_duration(row: &[u64]) -> bool
-    ensures { λ r. ⌜ r ≡ hasDuration (now (row .entry)) ⌝ }
-{
-    let action = word(row, ACTION);
-    action == BLOCK_OUTGOING || action == UPDATE_TIMER
-}
-
-// Action::sample_timeout; 0, with no draw, for an action that has no timeout.
+// Action::sample_timeout: of SendPadding and BlockOutgoing; 0, with no draw, for any other action.
 pub fn sample_timeout(row: &[u64], values: &[f64], at: usize) -> WholeDrawn
     ensures { λ r. ⌜ r ≡ sampleTimeout (now (row .entry)) (now (values .entry)) at ⌝ }
 {
-    if has_timeout(row) {
-        return sample_rounded(row, TIMEOUT, MAX_SAMPLED_TIMEOUT, values, at);
+    let action = word(row, ACTION);
+    if (action == SEND_PADDING) | (action == BLOCK_OUTGOING) {
+        return rounded(sample_at(row, TIMEOUT, values, at), MAX_SAMPLED_TIMEOUT);
     }
     WholeDrawn::GotWhole(Whole { value: 0, at: at })
 }
 
-// Action::sample_duration; 0, with no draw, for an action that has no duration.
+// Action::sample_duration: of BlockOutgoing and UpdateTimer; 0, with no draw, for any other action.
 pub fn sample_duration(row: &[u64], values: &[f64], at: usize) -> WholeDrawn
     ensures { λ r. ⌜ r ≡ sampleDuration (now (row .entry)) (now (values .entry)) at ⌝ }
 {
-    if has_duration(row) {
-        return sample_rounded(row, DURATION, MAX_SAMPLED_DURATION, values, at);
+    let action = word(row, ACTION);
+    if (action == BLOCK_OUTGOING) | (action == UPDATE_TIMER) {
+        return rounded(sample_at(row, DURATION, values, at), MAX_SAMPLED_DURATION);
     }
     WholeDrawn::GotWhole(Whole { value: 0, at: at })
 }
 
-// Whether the action is one that may have a limit: every action but Cancel.
-pub fn may_limit(row: &[u64]) -> bool
-    ensures { λ r. ⌜ r ≡ mayLimit (now (row .entry)) ⌝ }
-{
-    has_timeout(row) || word(row, ACTION) == UPDATE_TIMER
-}
-
-// Action::has_limit
+// Action::has_limit: every action but Cancel may have one.
 pub fn has_limit(row: &[u64]) -> bool
     ensures { λ r. ⌜ r ≡ hasLimit (now (row .entry)) ⌝ }
 {
-    if may_limit(row) {
-        return word(row, LIMIT) != ABSENT;
-    }
-    false
+    let action = word(row, ACTION);
+    let may = (action == SEND_PADDING) | (action == BLOCK_OUTGOING) | (action == UPDATE_TIMER);
+    may & (word(row, LIMIT) != ABSENT)
 }
 
 // Action::sample_limit; the largest u64, with no draw, where there is no limit.
@@ -99,7 +73,7 @@ pub fn sample_limit(row: &[u64], values: &[f64], at: usize) -> WholeDrawn
     ensures { λ r. ⌜ r ≡ sampleLimit (now (row .entry)) (now (values .entry)) at ⌝ }
 {
     if has_limit(row) {
-        return sample_rounded(row, LIMIT, STATE_LIMIT_MAX, values, at);
+        return rounded(sample_at(row, LIMIT, values, at), STATE_LIMIT_MAX);
     }
     WholeDrawn::GotWhole(Whole {
         value: STATE_LIMIT_MAX,

@@ -30,6 +30,19 @@ pub const STATE_WORDS: usize = 58;
 
 pub const TRANSITION_WORDS: usize = 2;
 
+// The words of a machine row: its padding and blocking budgets, then its own part of the state table.
+pub const ALLOWED_PADDING_PACKETS: usize = 0;
+
+pub const MAX_PADDING_FRAC: usize = 1;
+
+pub const ALLOWED_BLOCKED_MICROSEC: usize = 2;
+
+pub const MAX_BLOCKING_FRAC: usize = 3;
+
+pub const FIRST_STATE: usize = 4;
+
+pub const NUM_STATES: usize = 5;
+
 // Where the fields of a state row begin.
 pub const ACTION: usize = 0;
 

@@ -4,21 +4,19 @@ use super::constants::COUNTER_DIST;
 use super::dist::ValueDrawn;
 use super::dist::Whole;
 use super::dist::WholeDrawn;
+use super::dist::sample_at;
+use super::state::word;
 ghost use mathlib.Core.Path.{_≡_};
 ghost use Prim.Native.Nat.{_+_, _≤_};
 ghost use Rattle.machine.specs.Constants.{stateWords};
+ghost use lib.Ieee.{toUnsigned};
+ghost use Rattle.machine.specs.Dist.{wholeOf};
 ghost use Rattle.machine.specs.Counter.{sampleValue};
 
-// The value of the counter that begins at word k: cut, not rounded; 1 without a distribution.
-pub fn sample_value(row: &[u64], k: usize, values: &[f64], at: usize) -> WholeDrawn
-    requires { ⌜ k + 2 ≤ stateWords ⌝ }
-    ensures { λ r. ⌜ r ≡ sampleValue (now (row .entry)) k (now (values .entry)) at ⌝ }
+// A drawn value cut to a whole number, not rounded.
+fn cut_draw(drawn: ValueDrawn) -> WholeDrawn
+    ensures { λ r. ⌜ r ≡ wholeOf (toUnsigned 64) drawn ⌝ }
 {
-    let dist = k + COUNTER_DIST;
-    if super::state::word(row, dist) == ABSENT {
-        return WholeDrawn::GotWhole(Whole { value: 1, at: at });
-    }
-    let drawn = super::dist::sample(super::dist::dist_at(row, dist), values, at);
     match drawn {
         ValueDrawn::NoValue(n) => WholeDrawn::NoWhole(n),
         ValueDrawn::GotValue(v) => {
@@ -29,4 +27,16 @@ pub fn sample_value(row: &[u64], k: usize, values: &[f64], at: usize) -> WholeDr
             })
         }
     }
+}
+
+// The value of the counter that begins at word k: cut; 1 without a distribution.
+pub fn sample_value(row: &[u64], k: usize, values: &[f64], at: usize) -> WholeDrawn
+    requires { ⌜ k + 2 ≤ stateWords ⌝ }
+    ensures { λ r. ⌜ r ≡ sampleValue (now (row .entry)) k (now (values .entry)) at ⌝ }
+{
+    let dist = k + COUNTER_DIST;
+    if word(row, dist) == ABSENT {
+        return WholeDrawn::GotWhole(Whole { value: 1, at: at });
+    }
+    cut_draw(sample_at(row, dist, values, at))
 }

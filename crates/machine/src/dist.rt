@@ -49,7 +49,7 @@ pub enum WholeDrawn {
 // ---- five words of a row
 
 // Every kind but the first two reads as drawn outside; the table checks leave only 2.
-pub fn dist_type(kind: u64, low: f64, high: f64) -> DistType
+fn dist_type(kind: u64, low: f64, high: f64) -> DistType
     ensures { λ r. ⌜ r ≡ Spec.distType kind low high ⌝ }
 {
     if kind == ABSENT {
@@ -62,14 +62,14 @@ pub fn dist_type(kind: u64, low: f64, high: f64) -> DistType
 }
 
 // The f64 whose bits are word k of a row.
-pub fn f64_at(row: &[u64], k: usize) -> f64
+fn f64_at(row: &[u64], k: usize) -> f64
     ensures { λ r. ⌜ r ≡ Spec.f64At (now (row .entry)) k ⌝ }
 {
     numbers::f64_of_word(word(row, k))
 }
 
 // The distribution that begins at word k of a state row.
-pub fn dist_at(row: &[u64], k: usize) -> Dist
+fn dist_at(row: &[u64], k: usize) -> Dist
     requires { ⌜ k ≤ stateWords ⌝ }
     ensures { λ r. ⌜ r ≡ Spec.distAt (now (row .entry)) k ⌝ }
 {
@@ -83,40 +83,21 @@ pub fn dist_at(row: &[u64], k: usize) -> Dist
     }
 }
 
-// ---- Dist::validate
+// ---- Dist::validate: the parameters of a Uniform
 
 // Finite bounds in order, whose difference is finite too.
 pub fn valid_uniform(low: f64, high: f64) -> bool
     ensures { λ r. ⌜ r ≡ Spec.validUniform low high ⌝ }
 {
-    if numbers::is_finite(low) {
-        if numbers::is_finite(high) {
-            if low > high {
-                return false;
-            }
-            return numbers::is_finite(high - low);
-        }
-    }
-    false
-}
-
-// Absent, and what is drawn outside, have no parameter to check.
-pub fn validate(d: Dist) -> bool
-    ensures { λ r. ⌜ r ≡ Spec.validate d ⌝ }
-{
-    let dist = d.dist;
-    match dist {
-        DistType::Absent => true,
-        DistType::Uniform(low, high) => valid_uniform(low, high),
-        DistType::Outside => true,
-    }
+    let finite = numbers::is_finite(low) & numbers::is_finite(high);
+    finite & !(low > high) & numbers::is_finite(high - low)
 }
 
 // ---- the value tape: it is read by the next two functions alone
 
 // A Uniform value: 16 past the tape's end, 17 where it is not low <= v < high. With low = high it
 // takes no draw.
-pub fn uniform_draw(low: f64, high: f64, values: &[f64], at: usize) -> ValueDrawn
+fn uniform_draw(low: f64, high: f64, values: &[f64], at: usize) -> ValueDrawn
     ensures { λ r. ⌜ r ≡ Spec.uniformDraw low high (now (values .entry)) at ⌝ }
 {
     if low == high {
@@ -124,13 +105,11 @@ pub fn uniform_draw(low: f64, high: f64, values: &[f64], at: usize) -> ValueDraw
     }
     if at < values.len() {
         let v = values[at];
-        if low <= v {
-            if v < high {
-                return ValueDrawn::GotValue(Value {
-                    value: v,
-                    at: at + 1,
-                });
-            }
+        if (low <= v) & (v < high) {
+            return ValueDrawn::GotValue(Value {
+                value: v,
+                at: at + 1,
+            });
         }
         return ValueDrawn::NoValue(UNFIT_DRAW);
     }
@@ -138,23 +117,22 @@ pub fn uniform_draw(low: f64, high: f64, values: &[f64], at: usize) -> ValueDraw
 }
 
 // A value drawn outside: 16 past the tape's end.
-pub fn outside_draw(values: &[f64], at: usize) -> ValueDrawn
+fn outside_draw(values: &[f64], at: usize) -> ValueDrawn
     ensures { λ r. ⌜ r ≡ Spec.outsideDraw (now (values .entry)) at ⌝ }
 {
     if at < values.len() {
-        ValueDrawn::GotValue(Value {
+        return ValueDrawn::GotValue(Value {
             value: values[at],
             at: at + 1,
-        })
-    } else {
-        ValueDrawn::NoValue(NO_DRAW)
+        });
     }
+    ValueDrawn::NoValue(NO_DRAW)
 }
 
 // ---- Dist::dist_sample and Dist::sample
 
 // Callers do not sample an absent distribution.
-pub fn dist_sample(d: Dist, values: &[f64], at: usize) -> ValueDrawn
+fn dist_sample(d: Dist, values: &[f64], at: usize) -> ValueDrawn
     ensures { λ r. ⌜ r ≡ Spec.distSample d (now (values .entry)) at ⌝ }
 {
     let dist = d.dist;
@@ -166,41 +144,32 @@ pub fn dist_sample(d: Dist, values: &[f64], at: usize) -> ValueDrawn
 }
 
 // What is not finite, or not above 0, becomes 0.0.
-pub fn or_zero(x: f64) -> f64
+fn or_zero(x: f64) -> f64
     ensures { λ r. ⌜ r ≡ Spec.orZero x ⌝ }
 {
-    if numbers::is_finite(x) {
-        if x > 0.0 {
-            return x;
-        }
+    if numbers::is_finite(x) & (x > 0.0) {
+        return x;
     }
     0.0
 }
 
-// A max above 0 caps; a NaN is not above 0.
-pub fn capped(max: f64, x: f64) -> f64
-    ensures { λ r. ⌜ r ≡ Spec.capped max x ⌝ }
+// A sampled value with the start added, then at least 0. A max above 0 caps it; a NaN is not above
+// 0.
+fn adjusted(d: Dist, sampled: f64) -> f64
+    ensures { λ r. ⌜ r ≡ Spec.adjusted d sampled ⌝ }
 {
-    if max > 0.0 {
-        if max < x {
-            return max;
-        }
+    let x = or_zero(sampled + d.start);
+    let max = d.max;
+    if (max > 0.0) & (max < x) {
+        return max;
     }
     x
 }
 
-// A sampled value with the start added, then the two rules above.
-pub fn adjusted(d: Dist, sampled: f64) -> f64
-    ensures { λ r. ⌜ r ≡ Spec.adjusted d sampled ⌝ }
+// A drawn value, adjusted, or the refusal of its draw.
+fn adjusted_draw(d: Dist, drawn: ValueDrawn) -> ValueDrawn
+    ensures { λ r. ⌜ r ≡ Spec.adjustedDraw d drawn ⌝ }
 {
-    capped(d.max, or_zero(sampled + d.start))
-}
-
-// A value of the distribution, adjusted, or the refusal of its draw.
-pub fn sample(d: Dist, values: &[f64], at: usize) -> ValueDrawn
-    ensures { λ r. ⌜ r ≡ Spec.sample d (now (values .entry)) at ⌝ }
-{
-    let drawn = dist_sample(d, values, at);
     match drawn {
         ValueDrawn::NoValue(n) => ValueDrawn::NoValue(n),
         ValueDrawn::GotValue(v) => {
@@ -211,4 +180,13 @@ pub fn sample(d: Dist, values: &[f64], at: usize) -> ValueDrawn
             })
         }
     }
+}
+
+// Dist::sample of the distribution that begins at word k of a state row.
+pub fn sample_at(row: &[u64], k: usize, values: &[f64], at: usize) -> ValueDrawn
+    requires { ⌜ k ≤ stateWords ⌝ }
+    ensures { λ r. ⌜ r ≡ Spec.sample (Spec.distAt (now (row .entry)) k) (now (values .entry)) at ⌝ }
+{
+    let d = dist_at(row, k);
+    adjusted_draw(d, dist_sample(d, values, at))
 }

@@ -5,11 +5,12 @@ use super::constants::STATE_WORDS;
 use super::constants::TRANSITION_WORDS;
 use super::constants::UNFIT_DRAW;
 ghost use mathlib.Core.Path.{_≡_};
-ghost use Prim.Native.Nat.{_*_, _≤_, _<_, min};
-ghost use lib.ListN.{getD};
-ghost use Rattle.machine.specs.Constants.{eventNum, stateWords};
+ghost use Prim.Native.Nat.{_-_, _*_, _≤_, _<_, min};
+ghost use lib.ListN.{length, getD};
+ghost use lib.Ieee.{binary32, ofBits};
+ghost use Rattle.machine.specs.Constants.{eventNum, stateWords, transitionWords};
 ghost use Rattle.machine.specs.State.{rowsOf, stateRow, firstOf, countOf};
-ghost use Rattle.machine.specs.State.{chanceDraw, sampleState};
+ghost use Rattle.machine.specs.State.{chanceDraw, walk, sampleState};
 
 // A chance that was drawn, and where the chance tape goes on; or the refusal.
 pub enum ChanceDrawn {
@@ -29,11 +30,14 @@ pub enum Next {
 pub fn word(row: &[u64], k: usize) -> u64
     ensures { λ r. ⌜ r ≡ getD (now (row .entry)) k 0 ⌝ }
 {
-    if k < row.len() { row[k] } else { 0 }
+    if k < row.len() {
+        return row[k];
+    }
+    0
 }
 
 // The words that n state rows take, at most `len`. The quotient keeps the product from wrapping.
-pub fn state_words(n: u64, len: usize) -> usize
+fn state_words(n: u64, len: usize) -> usize
     ensures is { λ r. ⌜ r ≡ min (n * stateWords) len ⌝ }
     ensures within { λ r. ⌜ r ≤ len ⌝ }
 {
@@ -85,10 +89,8 @@ pub fn chance_draw(chances: &[f32], at: usize) -> ChanceDrawn
 {
     if at < chances.len() {
         let c = chances[at];
-        if c >= 0.0 {
-            if c < 1.0 {
-                return ChanceDrawn::GotChance(c, at + 1);
-            }
+        if (c >= 0.0) & (c < 1.0) {
+            return ChanceDrawn::GotChance(c, at + 1);
         }
         return ChanceDrawn::NoChance(UNFIT_DRAW);
     }
@@ -97,32 +99,32 @@ pub fn chance_draw(chances: &[f32], at: usize) -> ChanceDrawn
 
 // ---- State::sample_state
 
-// The first target of the row at which the running sum exceeds the draw. Neither the first row nor
-// the count is trusted to lie within the table.
-pub fn sample_state(transitions: &[u64], first: u64, count: u64, draw: f32) -> Next
-    ensures { λ r. ⌜ r ≡ sampleState (now (transitions .entry)) first count draw ⌝ }
+// The first target, from row `start` to `end`, at which the running sum exceeds the draw.
+fn first_above(transitions: &[u64], start: usize, end: usize, draw: f32) -> Next
+    requires { ⌜ start ≤ end ⌝ ∗ ⌜ end * transitionWords ≤ length (now transitions) ⌝ }
+    ensures { λ r. ⌜ r ≡ walk (now (transitions .entry)) start (end - start) (ofBits binary32 0) draw ⌝ }
 {
-    let rows = transitions.len() / TRANSITION_WORDS;
-    let start = first as usize;
-    if rows < start {
-        return Next::Nothing;
-    }
-    let n = count as usize;
-    if rows - start < n {
-        return Next::Nothing;
-    }
-    let end = start + n;
     let mut i = start;
     let mut sum: f32 = 0.0;
-    loop {
-        if end <= i {
-            break Next::Nothing;
-        }
+    while i < end {
         let at = i * TRANSITION_WORDS;
         sum = sum + numbers::f32_of_word(transitions[at + 1]);
         if draw < sum {
-            break Next::State(transitions[at]);
+            return Next::State(transitions[at]);
         }
         i = i + 1;
     }
+    Next::Nothing
+}
+
+// The choice among the `count` rows from row `first` on, none where the table ends before them. The
+// sum stops at the largest u64, beyond every table.
+pub fn sample_state(transitions: &[u64], first: u64, count: u64, draw: f32) -> Next
+    ensures { λ r. ⌜ r ≡ sampleState (now (transitions .entry)) first count draw ⌝ }
+{
+    let end = numbers::saturating_add(first, count) as usize;
+    if transitions.len() / TRANSITION_WORDS < end {
+        return Next::Nothing;
+    }
+    first_above(transitions, first as usize, end, draw)
 }

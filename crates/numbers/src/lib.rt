@@ -42,7 +42,7 @@ pub fn f32_of_word(w: u64) -> f32
 // ---- floats and whole numbers
 
 // Rust's `n as f64`: the nearest f64, at a tie the even one.
-pub fn count_as_f64(n: u64) -> f64
+fn count_as_f64(n: u64) -> f64
     ensures { λ r. ⌜ r ≡ Ieee.ofInt binary64 (pos n) ⌝ }
 {
     std::num::nearest_u64_to_f64(n)

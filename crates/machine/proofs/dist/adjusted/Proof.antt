@@ -1,18 +1,20 @@
--- `adjusted` meets its contract: it is that of `capped` at what `or_zero` ensures. Assumes nothing.
+-- `adjusted` meets its contract: the code's test, at what `or_zero` ensures, is that of the
+-- definition. Assumes nothing.
+use Rattle.machine.specs.Dist.{adjusted, capped}
 use borrow.Author.Needs.{needs}
-use Rattle.machine.specs.Dist.{adjusted}
 use Rattle.machine.proofs.dist.adjusted.Statement.{statement}
 use Rattle.machine.proofs.dist.adjusted.Tie as tie
 
 or-zero-requires : tie.Need-or-zero-requires
 or-zero-requires c κs = search needs
 
-capped-requires : tie.Need-capped-requires
-capped-requires c κs = search needs
-
 returns : tie.Need-returns
-unfolding adjusted
-returns c = rw (c .before .or-zero .ensures) at (c .capped .ensures)
+unfolding adjusted capped
+returns c = rw (rw (c .before .or-zero .ensures) at (c .if1 .taken))
+
+returns-2 : tie.Need-returns-2
+unfolding adjusted capped
+returns-2 c = rw (rw (c .before .or-zero .ensures) at (c .if1 .left)) (c .before .or-zero .ensures)
 
 pub adjusted-spec : {M : Type 1} → statement M
-adjusted-spec = tie.close (tie.spec or-zero-requires capped-requires returns)
+adjusted-spec = tie.close (tie.spec or-zero-requires returns returns-2)

@@ -1,6 +1,7 @@
 -- `dist_at` meets its contract: each part of the record is what its function ensures.
 -- Assumes nothing.
 use borrow.Author.Needs.{needs}
+use native.Mathlib.Omega.{arith}
 use Rattle.machine.specs.Dist.{distAt}
 use Rattle.machine.proofs.dist.dist_at.Statement.{statement}
 use Rattle.machine.proofs.dist.dist_at.Tie as tie
@@ -9,13 +10,13 @@ word-requires : tie.Need-word-requires
 word-requires c κs = search needs
 
 add-f64-at : tie.Need-add-f64-at
-add-f64-at c = search needs
+add-f64-at c = omega arith
 
 f64-at-requires : tie.Need-f64-at-requires
 f64-at-requires c κs = search needs
 
 add-f64-at-2 : tie.Need-add-f64-at-2
-add-f64-at-2 c = search needs
+add-f64-at-2 c = omega arith
 
 f64-at-requires-2 : tie.Need-f64-at-requires-2
 f64-at-requires-2 c κs = search needs
@@ -24,13 +25,13 @@ dist-type-requires : tie.Need-dist-type-requires
 dist-type-requires c κs = search needs
 
 add-f64-at-3 : tie.Need-add-f64-at-3
-add-f64-at-3 c = search needs
+add-f64-at-3 c = omega arith
 
 f64-at-requires-3 : tie.Need-f64-at-requires-3
 f64-at-requires-3 c κs = search needs
 
 add-f64-at-4 : tie.Need-add-f64-at-4
-add-f64-at-4 c = search needs
+add-f64-at-4 c = omega arith
 
 f64-at-requires-4 : tie.Need-f64-at-requires-4
 f64-at-requires-4 c κs = search needs

@@ -1,6 +1,6 @@
 -- `dist_sample` meets its contract, by the kind of the distribution. Assumes nothing.
-use borrow.Author.Needs.{needs}
 use Rattle.machine.specs.Dist.{distSample}
+use borrow.Author.Needs.{needs}
 use Rattle.machine.proofs.dist.dist_sample.Statement.{statement}
 use Rattle.machine.proofs.dist.dist_sample.Tie as tie
 

@@ -1,8 +1,8 @@
 -- `chance_draw` meets its contract: the code's tests in their order are those of the definition.
 -- Assumes nothing.
-use borrow.Author.Needs.{needs}
 use borrow.Author.Tests.{lt-ltb, le-ltb}
 use Rattle.machine.specs.State.{chanceDraw}
+use borrow.Author.Needs.{needs}
 use Rattle.machine.proofs.state.chance_draw.Statement.{statement}
 use Rattle.machine.proofs.state.chance_draw.Tie as tie
 
@@ -12,29 +12,21 @@ mul-c c = search needs
 shared-slice-read-c : tie.Need-shared-slice-read-c
 shared-slice-read-c c = search needs
 
-add-t11 : tie.Need-add-t11
-add-t11 c = search needs
+add-t12 : tie.Need-add-t12
+add-t12 c = search needs
 
 returns : tie.Need-returns
 unfolding chanceDraw
-returns c =
-    let on-tape = lt-ltb _ _ (c .before .before .before .if1 .taken) in
-    rw (on-tape, c .before .if2 .taken, c .if3 .taken)
+returns c = rw (lt-ltb _ _ (c .before .before .if1 .taken), c .if2 .taken)
 
 returns-2 : tie.Need-returns-2
 unfolding chanceDraw
-returns-2 c =
-    let on-tape = lt-ltb _ _ (c .before .before .before .if1 .taken) in
-    rw (on-tape, c .before .if2 .taken, c .if3 .left)
+returns-2 c = rw (lt-ltb _ _ (c .before .before .if1 .taken), c .if2 .left)
 
 returns-3 : tie.Need-returns-3
 unfolding chanceDraw
-returns-3 c = rw (lt-ltb _ _ (c .before .before .if1 .taken), c .if2 .left)
-
-returns-4 : tie.Need-returns-4
-unfolding chanceDraw
-returns-4 c = rw (le-ltb _ _ (c .if1 .left))
+returns-3 c = rw (le-ltb _ _ (c .if1 .left))
 
 pub chance-draw-spec : {M : Type 1} → statement M
 chance-draw-spec =
-    tie.close (tie.spec mul-c shared-slice-read-c add-t11 returns returns-2 returns-3 returns-4)
+    tie.close (tie.spec mul-c shared-slice-read-c add-t12 returns returns-2 returns-3)
