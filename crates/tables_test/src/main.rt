@@ -153,7 +153,7 @@ fn one(refusal: u64, place: usize, value: u64) {
     two(refusal, place, value, NONE, 0);
 }
 
-// ---- a long row: state 0 of a machine of up to 1,023 states goes to 40 of them with probability 1/64
+// ---- a long row: of up to 1,023 states, state 0 goes to 40 with probability 1/64 each
 
 fn long_states(count: u64) -> [u64; 59334] {
     let mut s = [0; 59334];
