@@ -1,12 +1,13 @@
 -- `replay::corpus::read_words` is safe.
 use borrow.Author.Needs.{needs}
+use Prim.Native.Nat.{ℕ}
 use native.Mathlib.Omega.{arith}
 use lib.ListN.{length-replicate, length-take, length-drop}
 use Rattle.replay.proofs.corpus.read_words.Statement.{statement}
 use Rattle.replay.proofs.corpus.read_words.Tie as tie
 
 slice-aggregate-read-bytes : tie.Need-slice-aggregate-read-bytes
-slice-aggregate-read-bytes c = search needs
+slice-aggregate-read-bytes c = length-replicate {A = ℕ} 65536 0
 
 mul-read-bytes : tie.Need-mul-read-bytes
 mul-read-bytes c = omega arith
