@@ -8,7 +8,7 @@ ghost use Prim.Native.Nat.{ℕ, _+_, _*_, _≤_, _<_};
 ghost use lib.ListN.{length, getD};
 
 // The words of the longest answer, that of 16 machines with an action each.
-pub const ANSWER: usize = 256;
+const ANSWER: usize = 256;
 
 pub const ROWS_AT: usize = 4;
 
@@ -27,45 +27,64 @@ fn bits(x: f64) -> u64 {
     }
 }
 
+// Puts words in an answer, from `at` on.
+fn put(out: &mut [u64; 256], at: usize, words: &[u64])
+    requires { ⌜ at + length (now words) ≤ 256 ⌝ }
+{
+    let mut i: usize = 0;
+    while i < words.len() {
+        out[at + i] = words[i];
+        i += 1;
+    }
+}
+
 fn put_runtime(out: &mut [u64; 256], at: usize, r: MachineRuntime)
     requires { ⌜ at + 9 ≤ 256 ⌝ }
 {
-    out[at] = r.current_state;
-    out[at + 1] = r.state_limit;
-    out[at + 2] = r.padding_sent;
-    out[at + 3] = r.normal_sent;
-    out[at + 4] = r.blocking_duration;
-    out[at + 5] = r.machine_start;
-    out[at + 6] = r.allowed_blocked_microsec;
-    out[at + 7] = r.counter_a;
-    out[at + 8] = r.counter_b;
+    let words = [
+        r.current_state,
+        r.state_limit,
+        r.padding_sent,
+        r.normal_sent,
+        r.blocking_duration,
+        r.machine_start,
+        r.allowed_blocked_microsec,
+        r.counter_a,
+        r.counter_b,
+    ];
+    put(out, at, &words);
 }
 
-fn put_own(out: &mut [u64; 256], at: usize, fw: Framework)
-    requires { ⌜ at + 11 ≤ 256 ⌝ }
+// The number of the state's words, and the framework's own.
+fn put_own(out: &mut [u64; 256], at: usize, count: u64, fw: Framework)
+    requires { ⌜ at + 12 ≤ 256 ⌝ }
 {
-    out[at] = fw.machines;
-    out[at + 1] = fw.current_time;
-    out[at + 2] = bits(fw.max_padding_frac);
-    out[at + 3] = fw.normal_sent_packets;
-    out[at + 4] = fw.padding_sent_packets;
-    out[at + 5] = bits(fw.max_blocking_frac);
-    out[at + 6] = fw.blocking_duration;
-    out[at + 7] = fw.blocking_started;
-    out[at + 8] = fw.blocking_active;
-    out[at + 9] = fw.signal_pending;
-    out[at + 10] = fw.framework_start;
+    let words = [
+        count,
+        fw.machines,
+        fw.current_time,
+        bits(fw.max_padding_frac),
+        fw.normal_sent_packets,
+        fw.padding_sent_packets,
+        bits(fw.max_blocking_frac),
+        fw.blocking_duration,
+        fw.blocking_started,
+        fw.blocking_active,
+        fw.signal_pending,
+        fw.framework_start,
+    ];
+    put(out, at, &words);
 }
 
-// The framework's state with so many machines.
-pub fn put_state(out: &mut [u64; 256], at: usize, fw: Framework, machines: usize)
-    requires { ⌜ (at ≤ 101) × (machines ≤ 16) ⌝ }
+// The framework's state with so many machines, behind the number of its words.
+fn put_state(out: &mut [u64; 256], at: usize, fw: Framework, machines: usize)
+    requires { ⌜ (at ≤ 100) × (machines ≤ 16) ⌝ }
 {
-    put_own(out, at, fw);
+    put_own(out, at, (STATE_WORDS + RUNTIME_WORDS * machines) as u64, fw);
     let mut m: usize = 0;
     while m < machines {
         let r = fw.runtime[m];
-        put_runtime(out, at + STATE_WORDS + RUNTIME_WORDS * m, r);
+        put_runtime(out, at + 1 + STATE_WORDS + RUNTIME_WORDS * m, r);
         m += 1;
     }
 }
@@ -87,6 +106,7 @@ fn put_rows(out: &mut [u64; 256], rows: &[u64; 96], words: usize)
     }
 }
 
+// An answer with so many machines of its framework.
 pub fn put_answer(
     out: &mut [u64; 256],
     refusal: u64,
@@ -95,17 +115,15 @@ pub fn put_answer(
     value_used: u64,
     rows: &[u64; 96],
     fw: Framework,
-) {
-    out[0] = refusal;
-    out[1] = actions;
-    out[2] = chance_used;
-    out[3] = value_used;
+    machines: usize,
+)
+    requires { ⌜ machines ≤ 16 ⌝ }
+{
+    let head = [refusal, actions, chance_used, value_used];
+    put(out, 0, &head);
     let words = ROW_WORDS * at_most_16(actions);
     put_rows(out, rows, words);
-    let machines = at_most_16(fw.machines);
-    let state = ROWS_AT + words;
-    out[state] = (STATE_WORDS + RUNTIME_WORDS * machines) as u64;
-    put_state(out, state + 1, fw, machines);
+    put_state(out, ROWS_AT + words, fw, machines);
 }
 
 // The first place at which two answers differ, 256 where they do not.
@@ -121,20 +139,4 @@ pub fn difference(a: &[u64; 256], b: &[u64; 256]) -> usize
         i += 1;
     }
     i
-}
-
-// Whether two frameworks are the same in all they hold, the rows of unused machines too.
-pub fn same_framework(a: Framework, b: Framework) -> bool {
-    let mut of_a = [0u64; 256];
-    put_state(&mut of_a, 0, a, 16);
-    let mut of_b = [0u64; 256];
-    put_state(&mut of_b, 0, b, 16);
-    difference(&of_a, &of_b) == ANSWER
-}
-
-// Whether a framework is all zero.
-pub fn all_zero(fw: Framework) -> bool {
-    let mut words = [0u64; 256];
-    put_state(&mut words, 0, fw, 16);
-    difference(&words, &[0u64; 256]) == ANSWER
 }

@@ -1,41 +1,27 @@
 // The recorded corpus on standard input, little-endian words. Its format is in
 // reference/corpus/README.md.
-use super::answer::ANSWER;
 use super::answer::ROW_WORDS;
 use super::answer::ROWS_AT;
-ghost use mathlib.Core.Path.{_≡_};
-ghost use Prim.Native.Nat.{_≤_};
+ghost use Prim.Native.Nat.{_+_, _≤_};
 ghost use lib.ListN.{length};
 
-enum Word {
-    Of(u64),
-    End,
-}
-
-fn read_word() -> Word {
-    let mut bytes = [0u8; 8];
-    let n = io::read_full(0, &mut bytes);
-    if n < 8 {
-        return Word::End;
-    }
-    let mut words = [0u64; 1];
-    text::put_words(&bytes, 1, &mut words);
-    Word::Of(words[0])
-}
-
-// Fills the words of out from `from` to before `to`, and answers whether they were all there.
-pub fn read_words(out: &mut [u64], from: usize, to: usize) -> bool
-    requires { ⌜ (from ≤ to) × (to ≤ length (now out)) ⌝ }
+// Fills the first n bytes of out, and answers whether they were all there.
+fn read_bytes(out: &mut [u8], n: usize) -> bool
+    requires { ⌜ n ≤ length (now out) ⌝ }
 {
-    let mut i = from;
-    while i < to {
-        let Word::Of(w) = read_word() else {
-            return false;
-        };
-        out[i] = w;
-        i += 1;
+    io::read_full(0, &mut out[..n]) >= n
+}
+
+// The same for n words of out from `at` on.
+pub fn read_words(out: &mut [u64], at: usize, n: usize) -> bool
+    requires { ⌜ (at + n ≤ length (now out)) × (n ≤ 8192) ⌝ }
+{
+    let mut bytes = [0u8; 65536];
+    if read_bytes(&mut bytes, 8 * n) {
+        text::put_words(&bytes, n, &mut out[at..]);
+        return true;
     }
-    true
+    false
 }
 
 // Reads a call's answer to the start of out, which then has at most that many words. False where
@@ -48,13 +34,14 @@ pub fn read_answer(out: &mut [u64; 256]) -> bool {
     if 16 < actions {
         return false;
     }
-    let state = ROWS_AT + ROW_WORDS * actions as usize;
-    if !read_words(out, ROWS_AT, state + 1) {
+    let rows = ROW_WORDS * actions as usize;
+    if !read_words(out, ROWS_AT, rows + 1) {
         return false;
     }
+    let state = ROWS_AT + rows;
     let count = out[state];
     if 155 < count {
         return false;
     }
-    read_words(out, state + 1, state + 1 + count as usize)
+    read_words(out, state + 1, count as usize)
 }

@@ -10,11 +10,11 @@ use super::tally::damaged;
 use steps::Framework;
 use steps::Opened;
 ghost use mathlib.Core.Path.{_≡_};
-ghost use Prim.Native.Nat.{_≤_, _<_};
-ghost use lib.ListN.{length};
+ghost use Prim.Native.Nat.{_≤_};
 ghost use Rattle.stream.specs.Stream.{checkOf};
 
-// The damages, as a difference prints them. A table one word short, refused as 3:
+// The damages, as a difference prints them. A table one word short, in a batch and in an opening,
+// refused as 3:
 const SHORT_MACHINES: u64 = 1;
 
 const SHORT_STATES: u64 = 2;
@@ -45,176 +45,188 @@ const REFUSED_TABLES: u64 = 11;
 // The framework of an opening that was refused for its draws, refused as 18:
 const NO_FRAMEWORK: u64 = 12;
 
-// What a batch with these differs in from one that is refused so.
-fn refused_batch(
-    refusal: u64,
-    fw: Framework,
-    machines: &[u64],
-    states: &[u64],
-    transitions: &[u64],
-    events: &[u64],
-    room: usize,
-) -> u64
-    requires { ⌜ room ≤ 96 ⌝ }
+// The last damage of an accepted opening's framework.
+const LAST: u64 = SHORT_OUTPUT;
+
+// Whether an accepted input can be damaged so.
+fn applies(words: &[u64], damage: u64) -> bool
+    requires { ⌜ checkOf (now words) ≡ 0 ⌝ }
 {
-    let mut out = [MARK; 96];
+    match damage {
+        SHORT_STATES => 0 < stream::state_table(words).len(),
+        SHORT_TRANSITIONS => 0 < stream::transition_table(words).len(),
+        MACHINE_MORE | SIGNAL_BEYOND | HALF_EVENT | KIND_TEN => true,
+        _ => 0 < stream::machine_table(words).len(),
+    }
+}
+
+fn refusal_of(damage: u64) -> u64 {
+    match damage {
+        MACHINE_MORE | STATE_BEYOND | SIGNAL_BEYOND => 18,
+        HALF_EVENT | KIND_TEN => 19,
+        SHORT_OUTPUT => 20,
+        _ => 3,
+    }
+}
+
+// All but the last word where it is to be cut.
+fn table(whole: &[u64], cut: bool) -> &[u64] {
+    if cut {
+        let n = whole.len();
+        if 0 < n {
+            let end = n - 1;
+            return &whole[..end];
+        }
+    }
+    whole
+}
+
+// Of the events NormalSent and one of kind 10.
+fn event_words(damage: u64) -> usize
+    ensures { λ r. ⌜ r ≤ 4 ⌝ }
+{
+    match damage {
+        HALF_EVENT => 3,
+        KIND_TEN => 4,
+        _ => 2,
+    }
+}
+
+fn room(damage: u64, machines: u64) -> usize
+    ensures { λ r. ⌜ r ≤ 96 ⌝ }
+{
+    let words = ROW_WORDS * at_most_16(machines);
+    if damage == SHORT_OUTPUT {
+        if 0 < words {
+            return words - 1;
+        }
+    }
+    96
+}
+
+// The framework with its last machine in a state one past its last.
+fn state_beyond(fw: Framework, words: &[u64]) -> Framework
+    requires { ⌜ checkOf (now words) ≡ 0 ⌝ }
+{
+    let count = at_most_16(fw.machines);
+    if count == 0 {
+        return fw;
+    }
+    let m = count - 1;
+    let mut d = fw;
+    let mut r = fw.runtime[m];
+    r.current_state = stream::word(stream::machine_table(words), ROW_WORDS * m + 5);
+    d.runtime[m] = r;
+    d
+}
+
+fn changed(fw: Framework, words: &[u64], damage: u64) -> Framework
+    requires { ⌜ checkOf (now words) ≡ 0 ⌝ }
+{
+    let mut d = fw;
+    if damage == MACHINE_MORE {
+        d.machines = numbers::saturating_add(fw.machines, 1);
+        return d;
+    }
+    if damage == SIGNAL_BEYOND {
+        d.signal_pending = numbers::saturating_add(fw.machines, 2);
+        return d;
+    }
+    if damage == STATE_BEYOND {
+        return state_beyond(fw, words);
+    }
+    fw
+}
+
+// What a batch with this damage differs in from one that is refused so.
+fn batch_field(fw: Framework, words: &[u64], damage: u64, refusal: u64) -> usize
+    requires { ⌜ checkOf (now words) ≡ 0 ⌝ }
+{
+    let machines = table(stream::machine_table(words), damage == SHORT_MACHINES);
+    let states = table(stream::state_table(words), damage == SHORT_STATES);
+    let transitions = table(stream::transition_table(words), damage == SHORT_TRANSITIONS);
+    let events = [3u64, 0, 10, 0];
+    let n = event_words(damage);
     let chances = [0.5f32; 16];
     let values = [1.0f64; 16];
     let time = numbers::saturating_add(fw.current_time, 1);
+    let mut out = [MARK; 96];
+    let end = room(damage, fw.machines);
     let a = lent_batch(
         fw,
         machines,
         states,
         transitions,
         time,
-        events,
+        &events[..n],
         &chances,
         &values,
         &mut out,
-        room,
+        end,
     );
     refused_field(refusal, fw, a, &out)
 }
 
-// All but the last word.
-fn shortened(table: &[u64]) -> &[u64]
-    requires { ⌜ 0 < length (now table) ⌝ }
+fn opening_field(words: &[u64]) -> usize
+    requires { ⌜ checkOf (now words) ≡ 0 ⌝ }
 {
-    let end = table.len() - 1;
-    &table[..end]
-}
-
-fn short_opening(words: &[u64], machines: &[u64], states: &[u64], transitions: &[u64]) -> u64 {
     let values = [1.0f64; 16];
     let padding = numbers::f64_of_word(stream::word(words, 0));
     let blocking = numbers::f64_of_word(stream::word(words, 1));
+    let machines = table(stream::machine_table(words), true);
+    let states = stream::state_table(words);
+    let transitions = stream::transition_table(words);
     let o = framework::opening(padding, blocking, 1, machines, states, transitions, &values);
     refused_opening_field(3, o)
 }
 
-fn short_tables(
-    t: Tally,
-    fw: Framework,
-    machines: &[u64],
-    states: &[u64],
-    transitions: &[u64],
-) -> Tally {
-    let events = [3u64, 0];
-    let mut r = t;
-    if 0 < machines.len() {
-        let field = refused_batch(3, fw, shortened(machines), states, transitions, &events, 96);
-        r = damaged(r, SHORT_MACHINES, field);
-    }
-    if 0 < states.len() {
-        let field = refused_batch(3, fw, machines, shortened(states), transitions, &events, 96);
-        r = damaged(r, SHORT_STATES, field);
-    }
-    if 0 < transitions.len() {
-        let field = refused_batch(3, fw, machines, states, shortened(transitions), &events, 96);
-        r = damaged(r, SHORT_TRANSITIONS, field);
-    }
-    r
-}
-
-// The framework with a machine in a state one past its last.
-fn state_beyond(fw: Framework, m: usize, machines: &[u64]) -> Framework
-    requires { ⌜ m ≤ 15 ⌝ }
+fn field_of(fw: Framework, words: &[u64], damage: u64) -> usize
+    requires { ⌜ checkOf (now words) ≡ 0 ⌝ }
 {
-    let mut d = fw;
-    let mut r = fw.runtime[m];
-    r.current_state = stream::word(machines, ROW_WORDS * m + 5);
-    d.runtime[m] = r;
-    d
+    if damage == SHORT_OPENING {
+        return opening_field(words);
+    }
+    let d = changed(fw, words, damage);
+    batch_field(d, words, damage, refusal_of(damage))
 }
 
-fn misfits(
-    t: Tally,
-    fw: Framework,
-    machines: &[u64],
-    states: &[u64],
-    transitions: &[u64],
-) -> Tally {
-    let events = [3u64, 0];
-    let mut more = fw;
-    more.machines = numbers::saturating_add(fw.machines, 1);
-    let field = refused_batch(18, more, machines, states, transitions, &events, 96);
-    let mut r = damaged(t, MACHINE_MORE, field);
-    let mut signal = fw;
-    signal.signal_pending = numbers::saturating_add(fw.machines, 2);
-    let field = refused_batch(18, signal, machines, states, transitions, &events, 96);
-    r = damaged(r, SIGNAL_BEYOND, field);
-    let count = at_most_16(fw.machines);
-    if 0 < count {
-        let beyond = state_beyond(fw, count - 1, machines);
-        let field = refused_batch(18, beyond, machines, states, transitions, &events, 96);
-        r = damaged(r, STATE_BEYOND, field);
+fn on_accepted(t: Tally, fw: Framework, words: &[u64]) -> Tally
+    requires { ⌜ checkOf (now words) ≡ 0 ⌝ }
+{
+    let mut r = t;
+    let mut damage = SHORT_MACHINES;
+    while damage <= LAST {
+        if applies(words, damage) {
+            r = damaged(r, damage, field_of(fw, words, damage));
+        }
+        damage += 1;
     }
     r
 }
 
-fn unfit_events(
-    t: Tally,
-    fw: Framework,
-    machines: &[u64],
-    states: &[u64],
-    transitions: &[u64],
-) -> Tally {
-    let half = [3u64, 0, 3];
-    let field = refused_batch(19, fw, machines, states, transitions, &half, 96);
-    let r = damaged(t, HALF_EVENT, field);
-    let ten = [3u64, 0, 10, 0];
-    let field = refused_batch(19, fw, machines, states, transitions, &ten, 96);
-    let r = damaged(r, KIND_TEN, field);
-    let room = ROW_WORDS * at_most_16(fw.machines);
-    if 0 < room {
-        let events = [3u64, 0];
-        let field = refused_batch(20, fw, machines, states, transitions, &events, room - 1);
-        return damaged(r, SHORT_OUTPUT, field);
-    }
-    r
-}
-
-fn on_accepted(
-    t: Tally,
-    words: &[u64],
-    fw: Framework,
-    machines: &[u64],
-    states: &[u64],
-    transitions: &[u64],
-) -> Tally {
-    let mut r = short_tables(t, fw, machines, states, transitions);
-    if 0 < machines.len() {
-        let field = short_opening(words, shortened(machines), states, transitions);
-        r = damaged(r, SHORT_OPENING, field);
-    }
-    r = misfits(r, fw, machines, states, transitions);
-    unfit_events(r, fw, machines, states, transitions)
-}
-
-fn on_refused(t: Tally, o: Opened, machines: &[u64], states: &[u64], transitions: &[u64]) -> Tally {
-    let events = [3u64, 0];
-    let fw = o.framework;
-    if o.refusal < 3 {
+fn on_refused(t: Tally, fw: Framework, words: &[u64], refusal: u64) -> Tally
+    requires { ⌜ checkOf (now words) ≡ 0 ⌝ }
+{
+    if refusal < 3 {
         return t;
     }
-    if o.refusal < 16 {
-        let field = refused_batch(o.refusal, fw, machines, states, transitions, &events, 96);
-        return damaged(t, REFUSED_TABLES, field);
+    if refusal < 16 {
+        return damaged(
+            t,
+            REFUSED_TABLES,
+            batch_field(fw, words, REFUSED_TABLES, refusal),
+        );
     }
-    let field = refused_batch(18, fw, machines, states, transitions, &events, 96);
-    damaged(t, NO_FRAMEWORK, field)
+    damaged(t, NO_FRAMEWORK, batch_field(fw, words, NO_FRAMEWORK, 18))
 }
 
 // After the opening of an input.
 pub fn damaged_calls(t: Tally, words: &[u64], o: Opened) -> Tally
     requires { ⌜ checkOf (now words) ≡ 0 ⌝ }
 {
-    let machines = stream::machine_table(words);
-    let states = stream::state_table(words);
-    let transitions = stream::transition_table(words);
+    let fw = o.framework;
     if o.refusal == 0 {
-        let fw = o.framework;
-        return on_accepted(t, words, fw, machines, states, transitions);
+        return on_accepted(t, fw, words);
     }
-    on_refused(t, o, machines, states, transitions)
+    on_refused(t, fw, words, o.refusal)
 }

@@ -1,23 +1,13 @@
 // What an answer differs in from the recorded one, or from what a refused call must leave.
-use super::answer::ANSWER;
 use super::answer::ROW_WORDS;
 use super::answer::ROWS_AT;
-use super::answer::all_zero;
 use super::answer::at_most_16;
 use super::answer::difference;
 use super::answer::put_answer;
-use super::answer::same_framework;
-use super::tally::ACTIONS;
 use super::tally::AGREED;
-use super::tally::CHANCES;
 use super::tally::ENDED;
 use super::tally::LIMIT;
 use super::tally::OUTPUT;
-use super::tally::REFUSAL;
-use super::tally::ROWS;
-use super::tally::STATE;
-use super::tally::UNCHANGED;
-use super::tally::VALUES;
 use steps::Answer;
 use steps::Framework;
 use steps::Opened;
@@ -57,45 +47,19 @@ pub fn lent_batch(
 
 const STATE_END: u64 = 4294967295;
 
-// What the recorded word at a place stands for.
-fn field_at(theirs: &[u64; 256], place: usize) -> u64 {
-    if place < ROWS_AT {
-        return REFUSAL + place as u64;
-    }
-    if place < ROWS_AT + ROW_WORDS * at_most_16(theirs[1]) {
-        return ROWS;
-    }
-    STATE
-}
-
-// The first field in which two answers differ.
-pub fn first_field(ours: &[u64; 256], theirs: &[u64; 256]) -> u64 {
-    let place = difference(ours, theirs);
-    if place < ANSWER {
-        return field_at(theirs, place);
-    }
-    AGREED
-}
-
-// Whether the recorded state has all machines ended.
-fn all_ended(theirs: &[u64; 256]) -> bool {
-    let state = ROWS_AT + ROW_WORDS * at_most_16(theirs[1]) + 1;
-    let machines = at_most_16(theirs[state]);
+// Whether all_machines_ended says of a framework what its machines' states say.
+fn ended_as_it_is(fw: Framework) -> bool {
+    let ended = framework::all_machines_ended(fw);
+    let machines = at_most_16(fw.machines);
     let mut m: usize = 0;
     while m < machines {
-        if theirs[state + 11 + 9 * m] != STATE_END {
-            return false;
+        let r = fw.runtime[m];
+        if r.current_state != STATE_END {
+            return !ended;
         }
         m += 1;
     }
-    true
-}
-
-fn ended_as(fw: Framework, theirs: &[u64; 256]) -> bool {
-    if all_ended(theirs) {
-        return framework::all_machines_ended(fw);
-    }
-    !framework::all_machines_ended(fw)
+    ended
 }
 
 // Whether the output from a place on is as it was.
@@ -110,18 +74,26 @@ fn untouched(out: &[u64; 96], from: usize) -> bool {
     true
 }
 
+// Whether the state in which machine m starts has an action.
+fn starts_with_action(machines: &[u64], states: &[u64], m: usize) -> bool
+    requires { ⌜ m ≤ 16 ⌝ }
+{
+    let first = stream::word(machines, ROW_WORDS * m + 4);
+    if first < 8192 {
+        return stream::word(states, 58 * first as usize) != 0;
+    }
+    true
+}
+
 // Whether the start states without an action have limit 0.
 fn start_limits(fw: Framework, machines: &[u64], states: &[u64]) -> bool {
     let count = at_most_16(fw.machines);
     let mut m: usize = 0;
     while m < count {
         let r = fw.runtime[m];
-        let first = stream::word(machines, ROW_WORDS * m + 4);
-        if first < 8192 {
-            if stream::word(states, 58 * first as usize) == 0 {
-                if r.state_limit != 0 {
-                    return false;
-                }
+        if r.state_limit != 0 {
+            if !starts_with_action(machines, states, m) {
+                return false;
             }
         }
         m += 1;
@@ -129,8 +101,21 @@ fn start_limits(fw: Framework, machines: &[u64], states: &[u64]) -> bool {
     true
 }
 
-pub fn opening_field(o: Opened, theirs: &[u64; 256], machines: &[u64], states: &[u64]) -> u64 {
+// Of an answer whose words are these, beside the recorded one, with its framework.
+fn recorded_field(ours: &[u64; 256], theirs: &[u64; 256], fw: Framework) -> usize {
+    let field = difference(ours, theirs);
+    if field < AGREED {
+        return field;
+    }
+    if ended_as_it_is(fw) {
+        return AGREED;
+    }
+    ENDED
+}
+
+pub fn opening_field(o: Opened, theirs: &[u64; 256], machines: &[u64], states: &[u64]) -> usize {
     let fw = o.framework;
+    let count = at_most_16(fw.machines);
     let mut ours = [0u64; 256];
     put_answer(
         &mut ours,
@@ -140,19 +125,14 @@ pub fn opening_field(o: Opened, theirs: &[u64; 256], machines: &[u64], states: &
         o.value_used,
         &[0u64; 96],
         fw,
+        count,
     );
-    let field = first_field(&ours, theirs);
+    let field = recorded_field(&ours, theirs, fw);
     if field != AGREED {
         return field;
     }
     if o.refusal != 0 {
-        if all_zero(fw) {
-            return AGREED;
-        }
-        return UNCHANGED;
-    }
-    if !ended_as(fw, theirs) {
-        return ENDED;
+        return refused_opening_field(o.refusal, o);
     }
     if start_limits(fw, machines, states) {
         return AGREED;
@@ -161,8 +141,9 @@ pub fn opening_field(o: Opened, theirs: &[u64; 256], machines: &[u64], states: &
 }
 
 // Of a call on `before`, whose output was all marks.
-pub fn call_field(before: Framework, a: Answer, out: &[u64; 96], theirs: &[u64; 256]) -> u64 {
+pub fn call_field(before: Framework, a: Answer, out: &[u64; 96], theirs: &[u64; 256]) -> usize {
     let fw = a.framework;
+    let count = at_most_16(fw.machines);
     let mut ours = [0u64; 256];
     put_answer(
         &mut ours,
@@ -172,13 +153,11 @@ pub fn call_field(before: Framework, a: Answer, out: &[u64; 96], theirs: &[u64; 
         a.value_used,
         out,
         fw,
+        count,
     );
-    let field = first_field(&ours, theirs);
+    let field = recorded_field(&ours, theirs, fw);
     if field != AGREED {
         return field;
-    }
-    if !ended_as(fw, theirs) {
-        return ENDED;
     }
     if a.refusal != 0 {
         return refused_field(a.refusal, before, a, out);
@@ -189,44 +168,45 @@ pub fn call_field(before: Framework, a: Answer, out: &[u64; 96], theirs: &[u64; 
     OUTPUT
 }
 
-// Of a call that must be refused so.
-pub fn refused_field(refusal: u64, before: Framework, a: Answer, out: &[u64; 96]) -> u64 {
-    if a.refusal != refusal {
-        return REFUSAL;
-    }
-    if a.actions != 0 {
-        return ACTIONS;
-    }
-    if a.chance_used != 0 {
-        return CHANCES;
-    }
-    if a.value_used != 0 {
-        return VALUES;
-    }
-    if !untouched(out, 0) {
-        return OUTPUT;
-    }
+// Of a call that must be refused so: nothing is drawn, and the framework is as it was in all it
+// holds, the rows of unused machines too.
+pub fn refused_field(refusal: u64, before: Framework, a: Answer, out: &[u64; 96]) -> usize {
     let after = a.framework;
-    if same_framework(before, after) {
-        return AGREED;
+    let mut ours = [0u64; 256];
+    put_answer(
+        &mut ours,
+        a.refusal,
+        a.actions,
+        a.chance_used,
+        a.value_used,
+        out,
+        after,
+        16,
+    );
+    let mut theirs = [0u64; 256];
+    put_answer(&mut theirs, refusal, 0, 0, 0, out, before, 16);
+    if untouched(out, 0) {
+        return difference(&ours, &theirs);
     }
-    UNCHANGED
+    OUTPUT
 }
 
-// Of an opening that must be refused so.
-pub fn refused_opening_field(refusal: u64, o: Opened) -> u64 {
-    if o.refusal != refusal {
-        return REFUSAL;
-    }
-    if o.chance_used != 0 {
-        return CHANCES;
-    }
-    if o.value_used != 0 {
-        return VALUES;
-    }
+// Of an opening that must be refused so: its framework is all zero.
+pub fn refused_opening_field(refusal: u64, o: Opened) -> usize {
     let fw = o.framework;
-    if all_zero(fw) {
-        return AGREED;
-    }
-    UNCHANGED
+    let mut ours = [0u64; 256];
+    put_answer(
+        &mut ours,
+        o.refusal,
+        0,
+        o.chance_used,
+        o.value_used,
+        &[0u64; 96],
+        fw,
+        16,
+    );
+    let mut theirs = [0u64; 256];
+    theirs[0] = refusal;
+    theirs[ROWS_AT] = 155;
+    difference(&ours, &theirs)
 }

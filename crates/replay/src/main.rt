@@ -60,7 +60,7 @@ fn unread_input(t: Tally, refusal: u64, theirs: &[u64; 256]) -> Turn {
     let mut ours = [0u64; 256];
     ours[0] = refusal;
     ours[4] = 11;
-    let field = judge::first_field(&ours, theirs);
+    let field = answer::difference(&ours, theirs);
     Turn {
         tally: tally::recorded(t, 0, field),
         more: true,
@@ -97,7 +97,40 @@ fn after_call(a: Answer, chance_at: usize, value_at: usize, tally: Tally) -> Bet
     }
 }
 
-// The call at a place of the input.
+// The call at a place of the input, beside its recorded answer.
+fn judged_call(
+    b: Between,
+    call: u64,
+    words: &[u64],
+    at: usize,
+    chances: &[f32],
+    values: &[f64],
+    theirs: &[u64; 256],
+) -> Between
+    requires { ⌜ (checkOf (now words) ≡ 0) × (nextCall (now words) at ≤ length (now words)) ⌝ }
+{
+    let fw = b.framework;
+    let chance_at = at_most(b.chance_at, chances.len());
+    let value_at = at_most(b.value_at, values.len());
+    let room = ROW_WORDS * at_most_16(fw.machines);
+    let mut out = [judge::MARK; 96];
+    let a = judge::lent_batch(
+        fw,
+        stream::machine_table(words),
+        stream::state_table(words),
+        stream::transition_table(words),
+        stream::word(words, at),
+        stream::events_at(words, at),
+        &chances[chance_at..],
+        &values[value_at..],
+        &mut out,
+        room,
+    );
+    let t = b.tally;
+    let tally = tally::recorded(t, call, judge::call_field(fw, a, &out, theirs));
+    after_call(a, chance_at, value_at, tally)
+}
+
 fn replay_call(
     b: Between,
     call: u64,
@@ -109,33 +142,10 @@ fn replay_call(
     requires { ⌜ (checkOf (now words) ≡ 0) × (nextCall (now words) at ≤ length (now words)) ⌝ }
 {
     let mut theirs = [0u64; 256];
-    if !corpus::read_answer(&mut theirs) {
-        return stopped(b, call);
+    if corpus::read_answer(&mut theirs) {
+        return judged_call(b, call, words, at, chances, values, &theirs);
     }
-    let machines = stream::machine_table(words);
-    let states = stream::state_table(words);
-    let transitions = stream::transition_table(words);
-    let events = stream::events_at(words, at);
-    let fw = b.framework;
-    let chance_at = at_most(b.chance_at, chances.len());
-    let value_at = at_most(b.value_at, values.len());
-    let room = ROW_WORDS * at_most_16(fw.machines);
-    let mut out = [judge::MARK; 96];
-    let a = judge::lent_batch(
-        fw,
-        machines,
-        states,
-        transitions,
-        stream::word(words, at),
-        events,
-        &chances[chance_at..],
-        &values[value_at..],
-        &mut out,
-        room,
-    );
-    let t = b.tally;
-    let tally = tally::recorded(t, call, judge::call_field(fw, a, &out, &theirs));
-    after_call(a, chance_at, value_at, tally)
+    stopped(b, call)
 }
 
 // All calls of an input behind its opening.
@@ -267,7 +277,7 @@ fn replay_next(t: Tally) -> Turn {
         };
     }
     let t = tally::next_case(t);
-    if !corpus::read_words(&mut head, 1, 2) {
+    if !corpus::read_words(&mut head, 1, 1) {
         return broken(t, 0);
     }
     if head[0] != KIND {

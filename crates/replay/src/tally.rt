@@ -9,34 +9,21 @@ pub struct Tally {
     pub differed: u64,
 }
 
-// What a call differed in; 0 where it agreed.
-pub const AGREED: u64 = 0;
-
-pub const REFUSAL: u64 = 1;
-
-pub const ACTIONS: u64 = 2;
-
-pub const CHANCES: u64 = 3;
-
-pub const VALUES: u64 = 4;
-
-pub const ROWS: u64 = 5;
-
-pub const STATE: u64 = 6;
+// What a call differed in, as a difference prints it: the first place of its answer's words
+// (answer.rt) at which they differ, or one of these.
+pub const AGREED: usize = 256;
 
 // Output words behind the rows were written.
-pub const OUTPUT: u64 = 7;
+pub const OUTPUT: usize = 257;
 
-// A refused call changed the framework.
-pub const UNCHANGED: u64 = 8;
-
-pub const ENDED: u64 = 9;
+// all_machines_ended
+pub const ENDED: usize = 258;
 
 // A start state without an action has a limit.
-pub const LIMIT: u64 = 10;
+pub const LIMIT: usize = 259;
 
 // The corpus itself is cut, or of a kind that is not known here.
-pub const CORPUS: u64 = 11;
+pub const CORPUS: usize = 260;
 
 // At most so many differences are printed.
 const PRINTED: u64 = 10;
@@ -62,20 +49,20 @@ pub fn next_case(t: Tally) -> Tally {
 }
 
 // A call of the corpus: its number, and what it differed in.
-pub fn recorded(t: Tally, call: u64, field: u64) -> Tally {
-    let mut r = judged(t, b"call ", call, field);
+pub fn recorded(t: Tally, call: u64, field: usize) -> Tally {
+    let mut r = judged(t, b" call ", call, field);
     r.calls = more(t.calls);
     r
 }
 
 // A call on damaged input: what was damaged (its number in damage.rt), and what it differed in.
-pub fn damaged(t: Tally, damage: u64, field: u64) -> Tally {
-    let mut r = judged(t, b"damage ", damage, field);
+pub fn damaged(t: Tally, damage: u64, field: usize) -> Tally {
+    let mut r = judged(t, b" damage ", damage, field);
     r.damaged = more(t.damaged);
     r
 }
 
-fn judged(t: Tally, what: &[u8], number: u64, field: u64) -> Tally {
+fn judged(t: Tally, what: &[u8], number: u64, field: usize) -> Tally {
     let mut r = t;
     if field == AGREED {
         r.agreed = more(t.agreed);
@@ -88,59 +75,20 @@ fn judged(t: Tally, what: &[u8], number: u64, field: u64) -> Tally {
     r
 }
 
-fn print_difference(case: u64, what: &[u8], number: u64, field: u64) {
-    io::write_all(1, b"case ");
-    io::print_decimal(1, case);
-    io::write_all(1, b" ");
-    io::write_all(1, what);
-    io::print_decimal(1, number);
-    io::write_all(1, b" differs: ");
-    print_field(field);
-    io::write_all(1, b"\n");
-}
-
-fn print_field(field: u64) {
-    match field {
-        REFUSAL => {
-            io::write_all(1, b"refusal");
-        }
-        ACTIONS => {
-            io::write_all(1, b"number of actions");
-        }
-        CHANCES => {
-            io::write_all(1, b"chance draws");
-        }
-        VALUES => {
-            io::write_all(1, b"value draws");
-        }
-        ROWS => {
-            io::write_all(1, b"rows");
-        }
-        STATE => {
-            io::write_all(1, b"state");
-        }
-        OUTPUT => {
-            io::write_all(1, b"output behind the rows");
-        }
-        UNCHANGED => {
-            io::write_all(1, b"framework after a refusal");
-        }
-        ENDED => {
-            io::write_all(1, b"all_machines_ended");
-        }
-        LIMIT => {
-            io::write_all(1, b"limit of a start state without an action");
-        }
-        _ => {
-            io::write_all(1, b"the corpus cannot be read");
-        }
-    }
+fn print_number(label: &[u8], n: u64) {
+    io::write_all(1, label);
+    io::print_decimal(1, n);
 }
 
 fn print_line(label: &[u8], n: u64) {
-    io::write_all(1, label);
-    io::print_decimal(1, n);
+    print_number(label, n);
     io::write_all(1, b"\n");
+}
+
+fn print_difference(case: u64, what: &[u8], number: u64, field: usize) {
+    print_number(b"case ", case);
+    print_number(what, number);
+    print_line(b" differs at ", field as u64);
 }
 
 pub fn print(t: Tally) {

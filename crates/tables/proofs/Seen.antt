@@ -86,6 +86,15 @@ one-mark n a b s t e = both (place n a s) (place n b t)
     both (inr (inr (p, q))) (inr (inl (r, u))) = omega arith
     both (inr (inr (p, q))) (inr (inr (r, u))) = omega arith
 
+pub mark-below : (n target : ℕ) → markOf n target < n + 2
+unfolding markOf
+mark-below n target = each (ltb target n) refl (eqb target stateEnd)
+  where
+    each : (a : Bool) → ltb target n ≡ a → (b : Bool) → cond a target (cond b n (n + 1)) < n + 2
+    each true e b = omega (arith, ltb-true target n e)
+    each false e true = omega arith
+    each false e false = omega arith
+
 -- ---- the marks of a row that begins at `first`, with the transitions before i met
 abbrev pub Met : List ℕ → List ℕ → ℕ → ℕ → ℕ → Type 0
 Met marks ts n first i =

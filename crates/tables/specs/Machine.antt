@@ -34,6 +34,10 @@ machineRefusal states ts row =
     (cond (beyondFraction (f64At row maxBlockingFrac)) 5
     (statesRefusal states ts (getD row firstState 0) (getD row numStates 0)))
 
+-- Refusals 4 to 15 of the first n machines, machine by machine.
+abbrev pub machinesRefusal : List ℕ → List ℕ → List ℕ → ℕ → ℕ
+machinesRefusal machines states ts n = firstRefusal (λ i. machineRefusal states ts (rowsOf machineWords machines i 1)) n 0
+
 -- each table is whole rows, of at most 16 machines
 unfoldable pub wholeTables : List ℕ → List ℕ → List ℕ → Bool
 wholeTables machines states ts =
@@ -44,5 +48,5 @@ wholeTables machines states ts =
 unfoldable pub tablesRefusal : List ℕ → List ℕ → List ℕ → ℕ
 tablesRefusal machines states ts =
     cond (wholeTables machines states ts)
-    (firstRefusal (λ i. machineRefusal states ts (rowsOf machineWords machines i 1)) (length machines / machineWords) 0)
+    (machinesRefusal machines states ts (length machines / machineWords))
     3

@@ -5,8 +5,12 @@ use machine::constants::MACHINE_WORDS;
 use machine::constants::STATE_WORDS;
 use machine::constants::TRANSITION_WORDS;
 ghost use mathlib.Core.Path.{_≡_};
+ghost use Prim.Native.Nat.{_*_, _%_, _≤_, _<_};
+ghost use lib.ListN.{length};
+ghost use lib.Dec.{eqb};
+ghost use Rattle.machine.specs.Constants.{machineWords};
 ghost use Rattle.tables.specs.Framework.{isFraction, fractionsRefusal};
-ghost use Rattle.tables.specs.Machine.{tablesRefusal};
+ghost use Rattle.tables.specs.Machine.{machinesRefusal, wholeTables, tablesRefusal};
 
 pub mod marks; // the targets met in a long row
 pub mod row; // state.rs: a row of transitions
@@ -36,23 +40,35 @@ pub fn check_fractions(max_padding_frac: f64, max_blocking_frac: f64) -> u64
     1
 }
 
-// Refusals 3 to 15: the tables' form, then machine by machine. No word is trusted.
-pub fn check_tables(machines: &[u64], states: &[u64], transitions: &[u64]) -> u64
-    ensures { λ r. ⌜ r ≡ tablesRefusal (now (machines .entry)) (now (states .entry)) (now (transitions .entry)) ⌝ }
+// Whether a table is whole rows of so many words.
+fn whole(table: &[u64], words: usize) -> bool
+    requires { ⌜ 0 < words ⌝ }
+    ensures { λ r. ⌜ r ≡ eqb (length (now (table .entry)) % words) 0 ⌝ }
 {
-    if machines.len() % MACHINE_WORDS != 0 {
-        return 3;
+    table.len() % words == 0
+}
+
+// Whether each table is whole rows, of at most 16 machines.
+fn whole_tables(machines: &[u64], states: &[u64], transitions: &[u64]) -> bool
+    ensures { λ r. ⌜ r ≡ wholeTables (now (machines .entry)) (now (states .entry)) (now (transitions .entry)) ⌝ }
+{
+    if whole(machines, MACHINE_WORDS) {
+        if whole(states, STATE_WORDS) {
+            if whole(transitions, TRANSITION_WORDS) {
+                return machines.len() / MACHINE_WORDS <= MACHINE_MAX;
+            }
+            return false;
+        }
+        return false;
     }
-    if states.len() % STATE_WORDS != 0 {
-        return 3;
-    }
-    if transitions.len() % TRANSITION_WORDS != 0 {
-        return 3;
-    }
-    let n = machines.len() / MACHINE_WORDS;
-    if n > MACHINE_MAX {
-        return 3;
-    }
+    false
+}
+
+// Machine by machine.
+fn check_machines(machines: &[u64], states: &[u64], transitions: &[u64], n: usize) -> u64
+    requires { ⌜ n * machineWords ≤ length (now machines) ⌝ }
+    ensures { λ r. ⌜ r ≡ machinesRefusal (now (machines .entry)) (now (states .entry)) (now (transitions .entry)) n ⌝ }
+{
     let mut i = 0;
     while i < n {
         let at = i * MACHINE_WORDS;
@@ -64,4 +80,19 @@ pub fn check_tables(machines: &[u64], states: &[u64], transitions: &[u64]) -> u6
         i = i + 1;
     }
     0
+}
+
+// Refusals 3 to 15: the tables' form, then machine by machine. No word is trusted.
+pub fn check_tables(machines: &[u64], states: &[u64], transitions: &[u64]) -> u64
+    ensures { λ r. ⌜ r ≡ tablesRefusal (now (machines .entry)) (now (states .entry)) (now (transitions .entry)) ⌝ }
+{
+    if whole_tables(machines, states, transitions) {
+        return check_machines(
+            machines,
+            states,
+            transitions,
+            machines.len() / MACHINE_WORDS,
+        );
+    }
+    3
 }

@@ -8,7 +8,7 @@ ghost use Rattle.machine.specs.Constants.{stateMax};
 ghost use Rattle.tables.specs.Marks.{markOf, isMarked, marked};
 
 // The mark of a target: its state's number, then END's and SIGNAL's.
-pub fn mark_of(n: u64, target: u64) -> usize
+fn mark_of(n: u64, target: u64) -> usize
     requires { ⌜ n ≤ stateMax ⌝ }
     ensures is { λ r. ⌜ r ≡ markOf n target ⌝ }
     ensures within { λ r. ⌜ r < n + 2 ⌝ }
@@ -24,7 +24,7 @@ pub fn mark_of(n: u64, target: u64) -> usize
 }
 
 // Whether mark m is set.
-pub fn is_marked(marks: &[u64], m: usize) -> bool
+fn is_marked(marks: &[u64], m: usize) -> bool
     requires { ⌜ m < length (now marks) * 64 ⌝ }
     ensures { λ r. ⌜ r ≡ isMarked (now (marks .entry)) m ⌝ }
 {
@@ -32,11 +32,23 @@ pub fn is_marked(marks: &[u64], m: usize) -> bool
 }
 
 // Sets mark m.
-pub fn mark(marks: &mut [u64], m: usize)
+fn mark(marks: &mut [u64], m: usize)
     requires { ⌜ m < length (now marks) * 64 ⌝ }
     ensures { λ r. ⌜ now (marks .exit) ≡ marked (now (marks .entry)) m ⌝ }
 {
     let at = m / 64;
     let bit: u64 = 1 << (m % 64);
     marks[at] = marks[at] | bit;
+}
+
+// Whether a target was met before; from now on it was.
+pub fn meet(marks: &mut [u64], n: u64, target: u64) -> bool
+    requires { ⌜ n ≤ stateMax ⌝ ∗ ⌜ n + 2 ≤ length (now marks) * 64 ⌝ }
+    ensures { λ r. ⌜ (r ≡ isMarked (now (marks .entry)) (markOf n target))
+        × (now (marks .exit) ≡ marked (now (marks .entry)) (markOf n target)) ⌝ }
+{
+    let m = mark_of(n, target);
+    let met = is_marked(marks, m);
+    mark(marks, m);
+    met
 }

@@ -14,7 +14,7 @@ ghost use mathlib.Core.Bool.{false};
 ghost use Prim.Native.Nat.{ℕ, _+_, _-_, _*_, _≤_, _<_};
 ghost use lib.ListN.{length, getD};
 ghost use Rattle.machine.specs.Constants.{stateMax};
-ghost use Rattle.machine.specs.State.{targetAt};
+ghost use Rattle.machine.specs.State.{targetAt, probabilityAt};
 ghost use Rattle.tables.specs.State as Spec;
 ghost use Rattle.tables.specs.Marks.{isMarked};
 
@@ -25,6 +25,30 @@ const SHORT_ROW: usize = 32;
 const FEW_STATES: u64 = 1022;
 
 // ---- one transition
+
+// The target of transition i.
+fn target_at(transitions: &[u64], i: usize) -> u64
+    requires { ⌜ (i + 1) * 2 ≤ length (now transitions) ⌝ }
+    ensures { λ r. ⌜ r ≡ targetAt (now (transitions .entry)) i ⌝ }
+{
+    transitions[i * TRANSITION_WORDS]
+}
+
+// The word of its probability.
+fn probability_word(transitions: &[u64], i: usize) -> u64
+    requires { ⌜ (i + 1) * 2 ≤ length (now transitions) ⌝ }
+    ensures { λ r. ⌜ r ≡ Spec.probabilityWord (now (transitions .entry)) i ⌝ }
+{
+    transitions[i * TRANSITION_WORDS + 1]
+}
+
+// Its probability.
+fn probability_at(transitions: &[u64], i: usize) -> f32
+    requires { ⌜ (i + 1) * 2 ≤ length (now transitions) ⌝ }
+    ensures { λ r. ⌜ r ≡ probabilityAt (now (transitions .entry)) i ⌝ }
+{
+    numbers::f32_of_word(probability_word(transitions, i))
+}
 
 // A state of the machine, or a special one.
 fn is_target(n: u64, target: u64) -> bool
@@ -54,16 +78,14 @@ fn check_transition(transitions: &[u64], n: u64, i: usize, seen: bool) -> u64
     requires { ⌜ (i + 1) * 2 ≤ length (now transitions) ⌝ }
     ensures { λ r. ⌜ r ≡ Spec.transitionRefusal (now (transitions .entry)) n i seen ⌝ }
 {
-    let at = i * TRANSITION_WORDS;
-    let word = transitions[at + 1];
-    if word >= 4294967296 {
+    if probability_word(transitions, i) >= 4294967296 {
         return 9;
     }
-    if is_target(n, transitions[at]) {
+    if is_target(n, target_at(transitions, i)) {
         if seen {
             return 11;
         }
-        if improbable(numbers::f32_of_word(word)) {
+        if improbable(probability_at(transitions, i)) {
             return 12;
         }
         return 0;
@@ -88,10 +110,10 @@ fn seen_before(transitions: &[u64], first: usize, i: usize) -> bool
     requires { ⌜ first ≤ i ⌝ ∗ ⌜ (i + 1) * 2 ≤ length (now transitions) ⌝ }
     ensures { λ r. ⌜ r ≡ Spec.seenBefore (now (transitions .entry)) first i ⌝ }
 {
-    let target = transitions[i * TRANSITION_WORDS];
+    let target = target_at(transitions, i);
     let mut j = first;
     while j < i {
-        if transitions[j * TRANSITION_WORDS] == target {
+        if target_at(transitions, j) == target {
             return true;
         }
         j = j + 1;
@@ -112,8 +134,7 @@ fn check_short_row(transitions: &[u64], n: u64, first: usize, end: usize) -> u64
         if refusal != 0 {
             return refusal;
         }
-        let at = i * TRANSITION_WORDS;
-        sum = sum + numbers::f32_of_word(transitions[at + 1]);
+        sum = sum + probability_at(transitions, i);
         i = i + 1;
     }
     check_sum(sum)
@@ -129,15 +150,12 @@ fn check_marked_row(transitions: &[u64], n: u64, first: usize, end: usize, marks
     let mut sum: f32 = 0.0;
     let mut i = first;
     while i < end {
-        let at = i * TRANSITION_WORDS;
-        let m = marks::mark_of(n, transitions[at]);
-        let seen = marks::is_marked(marks, m);
+        let seen = marks::meet(marks, n, target_at(transitions, i));
         let refusal = check_transition(transitions, n, i, seen);
         if refusal != 0 {
             return refusal;
         }
-        marks::mark(marks, m);
-        sum = sum + numbers::f32_of_word(transitions[at + 1]);
+        sum = sum + probability_at(transitions, i);
         i = i + 1;
     }
     check_sum(sum)

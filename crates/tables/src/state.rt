@@ -20,23 +20,20 @@ use machine::constants::UPDATE_TIMER;
 ghost use mathlib.Core.Path.{_≡_};
 ghost use Prim.Native.Nat.{_+_, _≤_, _<_};
 ghost use lib.ListN.{length, getD};
+ghost use lib.Dec.{ltb};
 ghost use Rattle.machine.specs.Constants.{stateWords, stateMax, eventNum};
 ghost use Rattle.machine.specs.State.{firstOf, countOf};
 ghost use Rattle.tables.specs.State as Spec;
 
 // ---- refusals 8 to 13: rows of transitions
 
-// One event. Where its count is 0 it has no row, and its first row is not read.
-fn check_event(transitions: &[u64], n: u64, row: &[u64], event: u64) -> u64
-    requires { ⌜ n ≤ stateMax ⌝ ∗ ⌜ length (now row) ≡ stateWords ⌝ ∗ ⌜ event < eventNum ⌝ }
-    ensures { λ r. ⌜ r ≡ Spec.pairRefusal (now (transitions .entry)) n (firstOf (now (row .entry)) event) (countOf (now (row .entry)) event) ⌝ }
+// A pair (first, count) with rows: that they are within the table, then each.
+fn check_pair(transitions: &[u64], n: u64, first: u64, count: u64) -> u64
+    requires { ⌜ n ≤ stateMax ⌝ ∗ ⌜ 0 < count ⌝ }
+    ensures { λ r. ⌜ r ≡ Spec.pairRefusal (now (transitions .entry)) n first count ⌝ }
 {
-    let at = EVENTS + (event as usize) * 2;
-    let count = row[at + 1] as usize;
-    if count == 0 {
-        return 0;
-    }
-    let first = row[at] as usize;
+    let first = first as usize;
+    let count = count as usize;
     let rows = transitions.len() / TRANSITION_WORDS;
     if rows < count {
         return 8;
@@ -45,6 +42,19 @@ fn check_event(transitions: &[u64], n: u64, row: &[u64], event: u64) -> u64
         return 8;
     }
     super::row::check_row(transitions, n, first, first + count)
+}
+
+// One event. Where its count is 0 it has no row, and its first row is not read.
+fn check_event(transitions: &[u64], n: u64, row: &[u64], event: u64) -> u64
+    requires { ⌜ n ≤ stateMax ⌝ ∗ ⌜ length (now row) ≡ stateWords ⌝ ∗ ⌜ event < eventNum ⌝ }
+    ensures { λ r. ⌜ r ≡ Spec.pairRefusal (now (transitions .entry)) n (firstOf (now (row .entry)) event) (countOf (now (row .entry)) event) ⌝ }
+{
+    let at = EVENTS + (event as usize) * 2;
+    let count = row[at + 1];
+    if count == 0 {
+        return 0;
+    }
+    check_pair(transitions, n, row[at], count)
 }
 
 // Event by event, in the order of `Event`.
@@ -65,14 +75,23 @@ fn check_events(transitions: &[u64], n: u64, row: &[u64]) -> u64
 
 // ---- refusal 14: codes
 
-// The kind of a distribution that the action needs.
-fn needed_unknown(kind: u64) -> bool
-    ensures { λ r. ⌜ r ≡ Spec.neededUnknown kind ⌝ }
+// Whether word k is above the last code that is known.
+fn above(row: &[u64], k: usize, last: u64) -> bool
+    requires { ⌜ length (now row) ≡ stateWords ⌝ ∗ ⌜ k < stateWords ⌝ }
+    ensures { λ r. ⌜ r ≡ ltb last (getD (now (row .entry)) k 0) ⌝ }
 {
-    if kind == ABSENT {
+    row[k] > last
+}
+
+// The kind of a distribution that the action needs, at word k.
+fn needed_unknown(row: &[u64], k: usize) -> bool
+    requires { ⌜ length (now row) ≡ stateWords ⌝ ∗ ⌜ k < stateWords ⌝ }
+    ensures { λ r. ⌜ r ≡ Spec.neededUnknown (getD (now (row .entry)) k 0) ⌝ }
+{
+    if row[k] == ABSENT {
         return true;
     }
-    kind > 2
+    above(row, k, 2)
 }
 
 // The flags and the limit of an action other than Cancel.
@@ -80,13 +99,14 @@ fn common_unknown(row: &[u64]) -> bool
     requires { ⌜ length (now row) ≡ stateWords ⌝ }
     ensures { λ r. ⌜ r ≡ Spec.commonUnknown (now (row .entry)) ⌝ }
 {
-    if row[FLAGS] > 3 {
+    if above(row, FLAGS, 3) {
         return true;
     }
-    row[LIMIT] > 2
+    above(row, LIMIT, 2)
 }
 
-// Cancel uses its timer alone.
+// Cancel uses its timer alone. What every other action uses comes first: an action of another code
+// is unknown by itself.
 fn action_unknown(row: &[u64]) -> bool
     requires { ⌜ length (now row) ≡ stateWords ⌝ }
     ensures { λ r. ⌜ r ≡ Spec.actionUnknown (now (row .entry)) ⌝ }
@@ -96,28 +116,22 @@ fn action_unknown(row: &[u64]) -> bool
         return false;
     }
     if action == CANCEL {
-        return row[TIMER] > 2;
+        return above(row, TIMER, 2);
+    }
+    if common_unknown(row) {
+        return true;
     }
     if action == SEND_PADDING {
-        if common_unknown(row) {
-            return true;
-        }
-        return needed_unknown(row[TIMEOUT]);
+        return needed_unknown(row, TIMEOUT);
     }
     if action == BLOCK_OUTGOING {
-        if common_unknown(row) {
+        if needed_unknown(row, TIMEOUT) {
             return true;
         }
-        if needed_unknown(row[TIMEOUT]) {
-            return true;
-        }
-        return needed_unknown(row[DURATION]);
+        return needed_unknown(row, DURATION);
     }
     if action == UPDATE_TIMER {
-        if common_unknown(row) {
-            return true;
-        }
-        return needed_unknown(row[DURATION]);
+        return needed_unknown(row, DURATION);
     }
     true
 }
@@ -127,17 +141,16 @@ fn counter_unknown(row: &[u64], k: usize) -> bool
     requires { ⌜ length (now row) ≡ stateWords ⌝ ∗ ⌜ k + 7 ≤ stateWords ⌝ }
     ensures { λ r. ⌜ r ≡ Spec.counterUnknown (now (row .entry)) k ⌝ }
 {
-    let operation = row[k];
-    if operation == 0 {
+    if row[k] == 0 {
         return false;
     }
-    if operation > 3 {
+    if above(row, k, 3) {
         return true;
     }
-    if row[k + 1] > 1 {
+    if above(row, k + 1, 1) {
         return true;
     }
-    row[k + COUNTER_DIST] > 2
+    above(row, k + COUNTER_DIST, 2)
 }
 
 fn codes_unknown(row: &[u64]) -> bool

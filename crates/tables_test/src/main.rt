@@ -26,6 +26,10 @@ const LOWEST: u64 = 0xffef_ffff_ffff_ffff;
 
 const HIGHEST: u64 = 0x7fef_ffff_ffff_ffff;
 
+const END: u64 = 4294967295;
+
+const SIGNAL: u64 = 4294967294;
+
 // 2^63.
 const HIGH: u64 = 0x8000_0000_0000_0000;
 
@@ -93,9 +97,9 @@ fn transitions(v: [u64; 284]) -> [u64; 284] {
     w[277] = 0x3f00_0000;
     w[278] = 1;
     w[279] = 0x3f00_0000;
-    w[280] = 4294967295;
+    w[280] = END;
     w[281] = 0x3f80_0000;
-    w[282] = 4294967294;
+    w[282] = SIGNAL;
     w[283] = 0x3f80_0000;
     w
 }
@@ -149,16 +153,16 @@ fn one(refusal: u64, place: usize, value: u64) {
     two(refusal, place, value, NONE, 0);
 }
 
-// ---- a long row: a machine of 40 states, of which state 0 goes to each with probability 1/64
+// ---- a long row: of up to 1,023 states, state 0 goes to 40 with probability 1/64 each
 
-fn long_states(count: u64) -> [u64; 2320] {
-    let mut s = [0; 2320];
+fn long_states(count: u64) -> [u64; 59334] {
+    let mut s = [0; 59334];
     s[33] = count;
     s
 }
 
-// The row, with one target put in another's place.
-fn long_row(place: usize, target: u64) -> [u64; 80] {
+// To the first 40 states.
+fn long_row() -> [u64; 80] {
     let mut t = [0; 80];
     let mut i = 0;
     while i < 40 {
@@ -166,17 +170,32 @@ fn long_row(place: usize, target: u64) -> [u64; 80] {
         t[i * 2 + 1] = 0x3c80_0000;
         i = i + 1;
     }
+    t
+}
+
+// With one target put in another's place.
+fn to(row: [u64; 80], place: usize, target: u64) -> [u64; 80] {
+    let mut t = row;
     if place < 40 {
         t[place * 2] = target;
     }
     t
 }
 
-fn long(refusal: u64, count: u64, place: usize, target: u64) {
-    let m = [0, 0, 0, 0, 0, 40];
+// A machine of n states, whose row has so many transitions.
+fn many(refusal: u64, n: u64, count: u64, t: [u64; 80]) {
+    let m = [0, 0, 0, 0, 0, n];
     let s = long_states(count);
-    let t = long_row(place, target);
     say(tables::check_tables(&m, &s, &t) == refusal);
+}
+
+fn long(refusal: u64, count: u64, place: usize, target: u64) {
+    many(refusal, 40, count, to(long_row(), place, target));
+}
+
+// Two targets of a row of 40.
+fn long_two(refusal: u64, n: u64, target: u64, target_2: u64) {
+    many(refusal, n, 40, to(to(long_row(), 0, target), 39, target_2));
 }
 
 // ---- the cases
@@ -276,8 +295,8 @@ fn words_and_targets() {
     one(10, 278, 4294967296);
     two(10, 278, u64::MAX, 279, 0);
     // END and SIGNAL in a row; END twice
-    two(0, 276, 4294967295, 278, 4294967294);
-    two(11, 276, 4294967295, 278, 4294967295);
+    two(0, 276, END, 278, SIGNAL);
+    two(11, 276, END, 278, END);
     // target 0 twice, with a probability of 0 the second time
     one(11, 278, 0);
     two(11, 278, 0, 279, 0);
@@ -357,7 +376,7 @@ fn distributions() {
 fn long_rows() {
     // all 40 targets; END for the last; the first for the last
     long(0, 40, 40, 0);
-    long(0, 40, 39, 4294967295);
+    long(0, 40, 39, END);
     long(11, 40, 39, 0);
     // a row that ends before the fault; one that begins with it
     long(0, 39, 39, 0);
@@ -365,6 +384,23 @@ fn long_rows() {
     // a target that is none; a row that is too long
     long(10, 40, 39, 40);
     long(8, 41, 40, 0);
+}
+
+// The same where the marks take 16 words, the most that are cleared for few states, and more.
+fn many_states() {
+    // SIGNAL's is the last mark of the 16 words
+    long_two(0, 1022, END, SIGNAL);
+    long_two(11, 1022, SIGNAL, SIGNAL);
+    // the first 40 states; a target twice
+    long_two(0, 1023, 0, 39);
+    long_two(11, 1023, 39, 39);
+    // END and SIGNAL; each twice; END beside the last state
+    long_two(0, 1023, END, SIGNAL);
+    long_two(11, 1023, END, END);
+    long_two(11, 1023, SIGNAL, SIGNAL);
+    long_two(0, 1023, 1022, END);
+    // a target that is none
+    long_two(10, 1023, 0, 1023);
 }
 
 fn main() {
@@ -379,5 +415,6 @@ fn main() {
     counter_codes();
     distributions();
     long_rows();
+    many_states();
     io::write_all(STDOUT_FILENO, b"\n");
 }

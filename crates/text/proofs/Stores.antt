@@ -7,7 +7,20 @@ use native.Mathlib.Omega.{arith}
 use lib.Ieee.{Float, nan}
 use lib.ListN.{length, take, drop, set, getD, length-append, length-map}
 use lib.Seq.{drop-cons, set-at, take-suc, length-take-le}
-use Rattle.text.specs.Words.{wordAt, wordsTo}
+use Rattle.text.specs.Words.{pairAt, wordAt, wordsTo}
+
+-- a word of its four pairs of bytes
+pub of-pairs : (b : List ℕ) (at p q r s : ℕ) → p ≡ pairAt b (at + 6) → q ≡ pairAt b (at + 4)
+    → r ≡ pairAt b (at + 2)
+    → s ≡ pairAt b at
+    → (p * 65536 + q) * 4294967296 + (r * 65536 + s) ≡ wordAt b at
+of-pairs b at p q r s e₁ e₂ e₃ e₄ =
+    let i₁ : at + 6 + 1 ≡ at + 7 = omega arith in
+    let i₂ : at + 4 + 1 ≡ at + 5 = omega arith in
+    let i₃ : at + 2 + 1 ≡ at + 3 = omega arith in
+    let f₁ : p ≡ getD b (at + 7) 0 * 256 + getD b (at + 6) 0 = rw i₁ at e₁ in
+    let f₂ : q ≡ getD b (at + 5) 0 * 256 + getD b (at + 4) 0 = rw i₂ at e₂ in
+    let f₃ : r ≡ getD b (at + 3) 0 * 256 + getD b (at + 2) 0 = rw i₃ at e₃ in omega arith
 
 -- the words are as many as they say
 pub length-words : (b : List ℕ) (k : ℕ) → length (wordsTo b k) ≡ k

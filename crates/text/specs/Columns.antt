@@ -43,6 +43,10 @@ rowLine row =
     ++ right 12 (getD row 5 0)
     ++ (10 ∷ [])
 
+-- a text with the line of row i from the byte `at` on
+unfoldable pub rowIn : ℕ → List ℕ → ℕ → List ℕ → List ℕ
+rowIn at rows i out = take at out ++ (rowLine (drop (6 * i) rows) ++ drop (at + 41) out)
+
 -- the lines of the first n rows, of six words each
 unfoldable pub rowLines : ℕ → List ℕ → List ℕ
 rowLines zero rows = []

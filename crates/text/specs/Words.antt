@@ -4,6 +4,10 @@ use mathlib.Core.List.{List, [], _∷_, _++_, map}
 use lib.ListN.{getD}
 use lib.Ieee.{Float, ofBits, binary32, binary64}
 
+-- the number that the two bytes from `at` on spell
+abbrev pub pairAt : List ℕ → ℕ → ℕ
+pairAt b at = getD b (at + 1) 0 * 256 + getD b at 0
+
 -- the number that the eight bytes from `at` on spell
 abbrev pub wordAt : List ℕ → ℕ → ℕ
 wordAt b at =

@@ -2,9 +2,9 @@
 ghost use mathlib.Core.Path.{_≡_};
 ghost use mathlib.Core.List.{_++_};
 ghost use Prim.Native.Nat.{_+_, _*_, _≤_, _<_};
-ghost use lib.ListN.{length, drop};
-ghost use Rattle.text.specs.Columns.{column, callLine, cellIn, rowLine, callText, mark as markOf};
-ghost use Rattle.text.specs.Words.{wordAt, wordsTo, chanceOf, valueOf, chances, values};
+ghost use lib.ListN.{length, getD, drop};
+ghost use Rattle.text.specs.Columns.{column, callLine, cellIn, rowLine, rowIn, callText, mark as markOf};
+ghost use Rattle.text.specs.Words.{pairAt, wordAt, wordsTo, chanceOf, valueOf, chances, values};
 
 // The byte in a column left of the last: a digit, or a space where no digit is left.
 fn mark(rest: u64) -> u8
@@ -41,6 +41,17 @@ fn put_cell(line: &mut [u8], at: usize, width: usize, n: u64)
     put_number(&mut line[at..], width, n);
 }
 
+// Words k and k + 1 of a row, in neighbouring cells of one width.
+fn put_two(line: &mut [u8], at: usize, width: usize, row: &[u64], k: usize)
+    requires { ⌜ (0 < width) × (at + (width + width) ≤ length (now line)) × (k + 2 ≤ length (now row)) ⌝ }
+    ensures { λ _. ⌜ now (line .exit)
+        ≡ cellIn (at + width) width (getD (now (row .entry)) (k + 1) 0)
+        (cellIn at width (getD (now (row .entry)) k 0) (now (line .entry))) ⌝ }
+{
+    put_cell(line, at, width, row[k]);
+    put_cell(line, at + width, width, row[k + 1]);
+}
+
 // A call's line: call, refusal and actions in 6, 4 and 4 columns, and a line feed.
 pub fn call_line(line: &mut [u8], call: u64, refusal: u64, actions: u64)
     requires { ⌜ 15 ≤ length (now line) ⌝ }
@@ -59,13 +70,19 @@ pub fn row_line(line: &mut [u8], row: &[u64])
     ensures { λ _. ⌜ now (line .exit)
         ≡ rowLine (now (row .entry)) ++ drop 41 (now (line .entry)) ⌝ }
 {
-    put_cell(line, 0, 4, row[0]);
-    put_cell(line, 4, 4, row[1]);
-    put_cell(line, 8, 4, row[2]);
-    put_cell(line, 12, 4, row[3]);
-    put_cell(line, 16, 12, row[4]);
-    put_cell(line, 28, 12, row[5]);
+    put_two(line, 0, 4, row, 0);
+    put_two(line, 8, 4, row, 2);
+    put_two(line, 16, 12, row, 4);
     line[40] = b'\n';
+}
+
+// The line of row i, from `at` on.
+fn put_row(out: &mut [u8], at: usize, rows: &[u64], i: usize)
+    requires { ⌜ (at + 41 ≤ length (now out)) × (6 * i + 6 ≤ length (now rows)) ⌝ }
+    ensures { λ _. ⌜ now (out .exit) ≡ rowIn at (now (rows .entry)) i (now (out .entry)) ⌝ }
+{
+    let row = 6 * i;
+    row_line(&mut out[at..], &rows[row..]);
 }
 
 // What a call prints: its line, and the lines of its rows. Answers how many bytes that is.
@@ -79,8 +96,7 @@ pub fn call_text(out: &mut [u8], call: u64, refusal: u64, actions: usize, rows: 
     let mut at: usize = 15;
     let mut i: usize = 0;
     while i < actions {
-        let row = 6 * i;
-        row_line(&mut out[at..], &rows[row..]);
+        put_row(out, at, rows, i);
         at += 41;
         i += 1;
     }
@@ -93,19 +109,22 @@ fn wide(b: u8) -> u64
     b as u64
 }
 
+// The number that the two bytes from `at` on spell, the low byte first.
+fn pair_at(b: &[u8], at: usize) -> u64
+    requires { ⌜ at + 2 ≤ length (now b) ⌝ }
+    ensures { λ r. ⌜ (r ≡ pairAt (now (b .entry)) at) × (r < 65536) ⌝ }
+{
+    wide(b[at + 1]) * 256 + wide(b[at])
+}
+
 // The word whose eight bytes start at `at`, the low byte first.
 fn word_at(b: &[u8], at: usize) -> u64
     requires { ⌜ at + 8 ≤ length (now b) ⌝ }
     ensures { λ r. ⌜ r ≡ wordAt (now (b .entry)) at ⌝ }
 {
-    let high = wide(b[at + 7]);
-    let high = high * 256 + wide(b[at + 6]);
-    let high = high * 256 + wide(b[at + 5]);
-    let high = high * 256 + wide(b[at + 4]);
-    let high = high * 256 + wide(b[at + 3]);
-    let high = high * 256 + wide(b[at + 2]);
-    let high = high * 256 + wide(b[at + 1]);
-    high * 256 + wide(b[at])
+    let high = pair_at(b, at + 6) * 65536 + pair_at(b, at + 4);
+    let low = pair_at(b, at + 2) * 65536 + pair_at(b, at);
+    high * 4294967296 + low
 }
 
 // Puts the first k words of b at the start of out.

@@ -59,23 +59,9 @@ slice-aggregate-call-text c = search needs
 
 call-text-requires : tie.Need-call-text-requires
 call-text-requires c κs =
-    let p1 = c .before .before .before in
-    let p2 = p1 .before .before .before .before in
-    let p3 = p2 .before .before .before .before .before in
-    let p4 = p3 .before .before .before .before .before in
-    let ws = p4 .args .words .now in
-    let s = p4 .args .s in
-    let ch = p4 .args .chances .now in
-    let vs = p4 .args .values .now in
-    let call = p3 .call-at in
-    let ms = p2 .before .before .before .machine-table in
-    let ss = p2 .before .before .state-table in
-    let ts = p2 .before .transition-table in
-    let ev = p2 .events-at in
-    let b = p1 .batch in
-    let e = answered ws s (call .result) (ms .result .now) (ss .result .now) (ts .result .now) (ev .result .now) ch vs (call .ensures) (ms .ensures) (ss .ensures) (ts .ensures) (ev .ensures) (p4 .pre .5) (p4 .pre .6) in
-    let a : b .result ≡ batchAt ws s .answer = b .ensures .0 ∙ ap (λ (x : Batch). x .answer) e in
-    omega (arith, rows-few ws s (b .result) a, p4 .pre .4, b .kept .1 .1 .1 .1 .1 .1 .1 .1 .0)
+    let b = c .before .before .before .batch in
+    let line = c .before .before .before .before .before .before .before .before .before .before .before .before .before .before .before .before .before .pre .4 in
+    omega (arith, rows-few _ _ _ _ _ _ _ (b .ensures .0), line, b .kept .1 .1 .1 .1 .1 .1 .1 .1 .0)
 
 further-requires : tie.Need-further-requires
 further-requires c κs =
@@ -104,12 +90,29 @@ returns c =
     let ts = p2 .before .transition-table in
     let ev = p2 .events-at in
     let b = p1 .batch in
-    let e = answered ws s (call .result) (ms .result .now) (ss .result .now) (ts .result .now) (ev .result .now) ch vs (call .ensures) (ms .ensures) (ss .ensures) (ts .ensures) (ev .ensures) (p4 .pre .5) (p4 .pre .6) in
+    let e =
+    answered ws s (call .result) (ms .result .now) (ss .result .now) (ts .result .now) (ev .result .now) ch vs (call .ensures)
+    (ms .ensures)
+    (ss .ensures)
+    (ts .ensures)
+    (ev .ensures)
+    (p4 .pre .5)
+    (p4 .pre .6) in
     let a : b .result ≡ batchAt ws s .answer = b .ensures .0 ∙ ap (λ (x : Batch). x .answer) e in
     let t = c .before .before .before .before .before .call-text in
-    let p = prints ws s (call .result) (ms .result .now) (ss .result .now) (ts .result .now) (ev .result .now) ch vs (call .ensures) (ms .ensures) (ss .ensures) (ts .ensures) (ev .ensures) (p4 .pre .5) (p4 .pre .6) (p4 .args .i) (b .result) _ _ (p4 .args .line .now) (t .result) a (b .ensures .1 ∙ ap (λ (x : Batch). x .out) e) (t .ensures .0) (t .ensures .1) in (
-      rw (c .before .further .ensures .0, c .further2 .ensures .0) (stepped ws s (call .result) (ms .result .now) (ss .result .now) (ts .result .now) (ev .result .now) ch vs (call .ensures) (ms .ensures) (ss .ensures) (ts .ensures) (ev .ensures) (p4 .pre .5) (p4 .pre .6) (b .result) a),
-      (p .0, (p .1, omega (arith, t .ensures .0, rows-few ws s (b .result) a), c .before .further .ensures .1, c .further2 .ensures .1)),
+    let o = b .ensures .1 ∙ ap (λ (x : Batch). x .out) e in
+    let p = prints ws s (p4 .args .i) (b .result) _ _ (p4 .args .line .now) (t .result) a o (t .ensures .0) (t .ensures .1) in (
+      rw (c .before .further .ensures .0, c .further2 .ensures .0)
+          (stepped ws s (b .result) (call .result) ch vs a (call .ensures) (p4 .pre .5) (p4 .pre .6)),
+      (
+        p .0,
+        (
+          p .1,
+          omega (arith, t .ensures .0, rows-few _ _ _ _ _ _ _ (b .ensures .0)),
+          c .before .further .ensures .1,
+          c .further2 .ensures .1,
+        ),
+      ),
     )
 
 pub one-call-spec : {M : Type 1} → statement M

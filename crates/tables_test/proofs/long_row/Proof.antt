@@ -1,14 +1,14 @@
--- `long_row` stays within its array: the loop's invariant says that i is at most 40. Assumes nothing.
-use Prim.Native.Nat.{_≤_, _-_}
+-- `tables_test::long_row` is safe and ends.
 use borrow.Author.Needs.{needs}
+use Prim.Native.Nat.{_≤_, _-_}
 use Rattle.tables_test.proofs.long_row.Statement.{statement}
 use Rattle.tables_test.proofs.long_row.Tie as tie
 
 abbrev Inv-loop : tie.InvT-loop
-Inv-loop place target t₀ i₀ t i = i ≤ 40
+Inv-loop t₀ i₀ t i = i ≤ 40
 
 abbrev μ-loop : tie.MeasureT-loop
-μ-loop place target t₀ i₀ t i = 40 - i
+μ-loop t₀ i₀ t i = 40 - i
 
 loop-holds : tie.Need-loop-holds Inv-loop μ-loop
 loop-holds c = search needs
@@ -43,20 +43,8 @@ loop-less c = search needs
 loop-again : tie.Need-loop-again Inv-loop μ-loop
 loop-again c = search needs
 
-mul-t-5 : tie.Need-mul-t-5 Inv-loop μ-loop
-mul-t-5 c = search needs
-
-mul-t-6 : tie.Need-mul-t-6 Inv-loop μ-loop
-mul-t-6 c = search needs
-
-array-write-t-3 : tie.Need-array-write-t-3 Inv-loop μ-loop
-array-write-t-3 c = search needs
-
 returns : tie.Need-returns Inv-loop μ-loop
 returns c = search needs
-
-returns-2 : tie.Need-returns-2 Inv-loop μ-loop
-returns-2 c = search needs
 
 pub long-row-spec : {M : Type 1} → statement M
 long-row-spec =
@@ -75,8 +63,4 @@ long-row-spec =
     add-i
     loop-less
     loop-again
-    mul-t-5
-    mul-t-6
-    array-write-t-3
-    returns
-    returns-2)
+    returns)

@@ -1,5 +1,6 @@
 -- `text::call_line` meets its contract: the line grows cell by cell.
-use Rattle.text.proofs.Cells.{kept}
+use mathlib.Core.Path.{_∙_}
+use lib.ListN.{length-set}
 use Rattle.text.proofs.Lines.{call-lined}
 use borrow.Author.Needs.{needs}
 use Rattle.text.proofs.call_line.Statement.{statement}
@@ -18,27 +19,15 @@ slice-write-line : tie.Need-slice-write-line
 slice-write-line c = search needs
 
 same-length : tie.Need-same-length
-same-length c =
-    let p1 = c .before .before .before .before .before .before in
-    let p2 = p1 .before .before .before .before in
-    let p3 = p2 .before .before .before in
-    kept
-    (call-lined (p3 .args .call) (p3 .args .refusal) (p3 .args .actions) (p3 .pre)
-    (p2 .put-cell .ensures)
-    (p1 .put-cell2 .ensures)
-    (c .before .before .put-cell3 .ensures))
-    (p3 .pre)
+same-length c = simp length-set (c .before .before .put-cell3 .kept .0 ∙ c .before .before .before .before .before .before .put-cell2 .kept .0 ∙ c .before .before .before .before .before .before .before .before .before .before .put-cell .kept .0)
 
 returns : tie.Need-returns
 returns c =
-    let p1 = c .before .before .before .before .before .before in
-    let p2 = p1 .before .before .before .before in
-    let p3 = p2 .before .before .before in
-    call-lined (p3 .args .call) (p3 .args .refusal) (p3 .args .actions) (p3 .pre)
-    (p2 .put-cell .ensures)
-    (p1 .put-cell2 .ensures)
+    let s = c .before .before .before .before .before .before .before .before .before .before .before .before .before in
+    call-lined (s .args .line .now) (s .args .call) (s .args .refusal) (s .args .actions) (s .pre)
+    (c .before .before .before .before .before .before .before .before .before .before .put-cell .ensures)
+    (c .before .before .before .before .before .before .put-cell2 .ensures)
     (c .before .before .put-cell3 .ensures)
-    .is
 
 pub call-line-spec : {M : Type 1} → statement M
 call-line-spec =

@@ -1,72 +1,60 @@
--- `replay::corpus::read_words` is safe and ends: the words keep their number.
-use Prim.Native.Nat.{_≤_, _-_}
-use mathlib.Core.Path.{_≡_}
-use lib.ListN.{length, length-set}
+-- `replay::corpus::read_words` is safe.
 use borrow.Author.Needs.{needs}
+use Prim.Native.Nat.{ℕ}
+use native.Mathlib.Omega.{arith}
+use lib.ListN.{length-replicate, length-take, length-drop}
 use Rattle.replay.proofs.corpus.read_words.Statement.{statement}
 use Rattle.replay.proofs.corpus.read_words.Tie as tie
 
-abbrev Inv-loop : tie.InvT-loop
-Inv-loop out₀ from to i₀ out i = (i ≤ to) × (to ≤ length out) × (length out ≡ length out₀)
+slice-aggregate-read-bytes : tie.Need-slice-aggregate-read-bytes
+slice-aggregate-read-bytes c = length-replicate {A = ℕ} 65536 0
 
-abbrev μ-loop : tie.MeasureT-loop
-μ-loop out₀ from to i₀ out i = to - i
+mul-read-bytes : tie.Need-mul-read-bytes
+mul-read-bytes c = omega arith
 
-loop-holds : tie.Need-loop-holds Inv-loop μ-loop
-loop-holds c = search needs
+read-bytes-requires : tie.Need-read-bytes-requires
+read-bytes-requires c κs = simp length-replicate (omega arith)
 
-read-word-requires : tie.Need-read-word-requires Inv-loop μ-loop
-read-word-requires c κs = search needs
+slice-aggregate-put-words : tie.Need-slice-aggregate-put-words
+slice-aggregate-put-words c = search needs
 
-enum-known-w : tie.Need-enum-known-w Inv-loop μ-loop
-enum-known-w c = search needs
+mul-put-words : tie.Need-mul-put-words
+mul-put-words c = omega arith
 
-enum-told : tie.Need-enum-told Inv-loop μ-loop
-enum-told c = search needs
+sub-put-words : tie.Need-sub-put-words
+sub-put-words c = omega arith
 
-same-length : tie.Need-same-length Inv-loop μ-loop
+part-put-words-start : tie.Need-part-put-words-start
+part-put-words-start c = omega arith
+
+part-put-words-end : tie.Need-part-put-words-end
+part-put-words-end c = omega arith
+
+put-words-requires : tie.Need-put-words-requires
+put-words-requires c κs = search needs
+
+same-length : tie.Need-same-length
 same-length c = search needs
 
-returns : tie.Need-returns Inv-loop μ-loop
-returns c = search needs
+returns : tie.Need-returns
+returns c = tt
 
-mul-out : tie.Need-mul-out Inv-loop μ-loop
-mul-out c = search needs
-
-slice-write-out : tie.Need-slice-write-out Inv-loop μ-loop
-slice-write-out c = search needs
-
-add-i : tie.Need-add-i Inv-loop μ-loop
-add-i c = search needs
-
-loop-less : tie.Need-loop-less Inv-loop μ-loop
-loop-less c = search needs
-
-loop-again : tie.Need-loop-again Inv-loop μ-loop
-loop-again c = simp length-set (search needs)
-
-same-length-2 : tie.Need-same-length-2 Inv-loop μ-loop
-same-length-2 c = search needs
-
-returns-2 : tie.Need-returns-2 Inv-loop μ-loop
-returns-2 c = search needs
+returns-2 : tie.Need-returns-2
+returns-2 c = tt
 
 pub read-words-spec : {M : Type 1} → statement M
 read-words-spec =
     tie.close
     (tie.spec
-    Inv-loop
-    μ-loop
-    loop-holds
-    read-word-requires
-    enum-known-w
-    enum-told
+    slice-aggregate-read-bytes
+    mul-read-bytes
+    read-bytes-requires
+    slice-aggregate-put-words
+    mul-put-words
+    sub-put-words
+    part-put-words-start
+    part-put-words-end
+    put-words-requires
     same-length
     returns
-    mul-out
-    slice-write-out
-    add-i
-    loop-less
-    loop-again
-    same-length-2
     returns-2)

@@ -1,56 +1,45 @@
 -- `replay::judge::start_limits` is safe and ends.
+use borrow.Author.Needs.{needs}
 use Prim.Native.Nat.{_≤_, _-_}
 use native.Mathlib.Omega.{arith}
 use Rattle.replay.proofs.judge.start_limits.Statement.{statement}
 use Rattle.replay.proofs.judge.start_limits.Tie as tie
 
 abbrev Inv-loop : tie.InvT-loop
-Inv-loop machines states fw count m₀ m = (m ≤ count) × (count ≤ 16)
+Inv-loop machines states fw count m₀ m = m ≤ count
 
 abbrev μ-loop : tie.MeasureT-loop
 μ-loop machines states fw count m₀ m = count - m
 
 at-most-16-requires : tie.Need-at-most-16-requires Inv-loop μ-loop
-at-most-16-requires c κs = tt
+at-most-16-requires c κs = search needs
 
 loop-holds : tie.Need-loop-holds Inv-loop μ-loop
-loop-holds c = omega arith
+loop-holds c = search needs
 
 mul-r : tie.Need-mul-r Inv-loop μ-loop
-mul-r c = omega arith
+mul-r c = search needs
 
 element-copy-out-r : tie.Need-element-copy-out-r Inv-loop μ-loop
-element-copy-out-r c = omega arith
+element-copy-out-r c = search needs
 
-mul-word : tie.Need-mul-word Inv-loop μ-loop
-mul-word c = omega arith
-
-add-word : tie.Need-add-word Inv-loop μ-loop
-add-word c = omega arith
-
-word-requires : tie.Need-word-requires Inv-loop μ-loop
-word-requires c κs = tt
-
-mul-word-2 : tie.Need-mul-word-2 Inv-loop μ-loop
-mul-word-2 c = omega arith
-
-word-requires-2 : tie.Need-word-requires-2 Inv-loop μ-loop
-word-requires-2 c κs = tt
+starts-with-action-requires : tie.Need-starts-with-action-requires Inv-loop μ-loop
+starts-with-action-requires c κs = search needs
 
 returns : tie.Need-returns Inv-loop μ-loop
-returns c = tt
+returns c = search needs
 
 add-m : tie.Need-add-m Inv-loop μ-loop
-add-m c = omega arith
+add-m c = search needs
 
 loop-less : tie.Need-loop-less Inv-loop μ-loop
-loop-less c = omega arith
+loop-less c = search needs
 
 loop-again : tie.Need-loop-again Inv-loop μ-loop
-loop-again c = omega arith
+loop-again c = search needs
 
 returns-2 : tie.Need-returns-2 Inv-loop μ-loop
-returns-2 c = tt
+returns-2 c = search needs
 
 pub start-limits-spec : {M : Type 1} → statement M
 start-limits-spec =
@@ -62,11 +51,7 @@ start-limits-spec =
     loop-holds
     mul-r
     element-copy-out-r
-    mul-word
-    add-word
-    word-requires
-    mul-word-2
-    word-requires-2
+    starts-with-action-requires
     returns
     add-m
     loop-less

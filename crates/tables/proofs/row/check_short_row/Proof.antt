@@ -10,8 +10,7 @@ use Rattle.tables.proofs.row.check_short_row.Tie as tie
 
 abbrev Inv-loop : tie.InvT-loop
 Inv-loop transitions n first end sum₀ i₀ sum i =
-    (first ≤ i) × ((i ≤ end) × (rowRefusal transitions n first (end - first) ≡ rest transitions n first
-    end i sum))
+    (first ≤ i) × ((i ≤ end) × (rowRefusal transitions n first (end - first) ≡ rest transitions n first end i sum))
 
 abbrev μ-loop : tie.MeasureT-loop
 μ-loop transitions n first end sum₀ i₀ sum i = end - i
@@ -28,23 +27,12 @@ check-transition-requires c κs = search needs
 returns : tie.Need-returns Inv-loop μ-loop
 returns c =
     let e = rw (c .before .before .seen-before .ensures) at (c .before .check-transition .ensures) in
-    e ∙ sym (c .before .before .before .before .loop .inv .1 .1 ∙ row-stops _ _ _ _ _ _
-    (c .before .before .before .loop-test .taken) (λ z. c .if1 .taken (e ∙ z)))
+    e
+    ∙ sym
+    (c .before .before .before .before .loop .inv .1 .1 ∙ row-stops _ _ _ _ _ _ (c .before .before .before .loop-test .taken) (λ z. c .if1 .taken (e ∙ z)))
 
-mul-at : tie.Need-mul-at Inv-loop μ-loop
-mul-at c = search needs
-
-add-f32-of-word : tie.Need-add-f32-of-word Inv-loop μ-loop
-add-f32-of-word c = search needs
-
-mul-f32-of-word : tie.Need-mul-f32-of-word Inv-loop μ-loop
-mul-f32-of-word c = search needs
-
-shared-slice-read-f32-of-word : tie.Need-shared-slice-read-f32-of-word Inv-loop μ-loop
-shared-slice-read-f32-of-word c = search needs
-
-f32-of-word-requires : tie.Need-f32-of-word-requires Inv-loop μ-loop
-f32-of-word-requires c κs = search needs
+probability-at-requires : tie.Need-probability-at-requires Inv-loop μ-loop
+probability-at-requires c κs = search needs
 
 add-i : tie.Need-add-i Inv-loop μ-loop
 add-i c = search needs
@@ -54,15 +42,12 @@ loop-less c = search needs
 
 loop-again : tie.Need-loop-again Inv-loop μ-loop
 loop-again c =
-    let e = rw (c .before .before .before .before .seen-before .ensures)
-    at (c .before .before .before .check-transition .ensures) in (
+    let e = rw (c .before .before .before .seen-before .ensures) at (c .before .before .check-transition .ensures) in (
       search needs,
       (
         search needs,
-        rw (c .f32-of-word .ensures)
-            (c .before .before .before .before .before .before .loop .inv .1 .1 ∙ row-on _ _ _ _ _ _
-            (c .before .before .before .before .before .loop-test .taken)
-            (sym e ∙ c .before .before .if1 .left)),
+        rw (c .probability-at .ensures)
+            (c .before .before .before .before .before .loop .inv .1 .1 ∙ row-on _ _ _ _ _ _ (c .before .before .before .before .loop-test .taken) (sym e ∙ c .before .if1 .left)),
       ),
     )
 
@@ -70,9 +55,7 @@ check-sum-requires : tie.Need-check-sum-requires Inv-loop μ-loop
 check-sum-requires c κs = search needs
 
 returns-2 : tie.Need-returns-2 Inv-loop μ-loop
-returns-2 c =
-    c .check-sum .ensures ∙ sym (c .before .before .loop .inv .1 .1 ∙ row-ends _ _ _ _ _ _
-    (c .before .loop-test .left))
+returns-2 c = c .check-sum .ensures ∙ sym (c .before .before .loop .inv .1 .1 ∙ row-ends _ _ _ _ _ _ (c .before .loop-test .left))
 
 pub check-short-row-spec : {M : Type 1} → statement M
 check-short-row-spec =
@@ -84,11 +67,7 @@ check-short-row-spec =
     seen-before-requires
     check-transition-requires
     returns
-    mul-at
-    add-f32-of-word
-    mul-f32-of-word
-    shared-slice-read-f32-of-word
-    f32-of-word-requires
+    probability-at-requires
     add-i
     loop-less
     loop-again

@@ -1,74 +1,71 @@
 -- `state::counter_unknown` meets its contract: the code's tests in their order are the definition's. Assumes nothing.
-use borrow.Author.Needs.{needs}
-use borrow.Author.Tests.{eq-eqb, ne-eqb, lt-ltb, le-ltb}
+use mathlib.Core.Path.{sym, _∙_}
+use borrow.Author.Tests.{eq-eqb, ne-eqb}
 use Rattle.tables.specs.State.{counterUnknown}
+use borrow.Author.Needs.{needs}
 use Rattle.tables.proofs.state.counter_unknown.Statement.{statement}
 use Rattle.tables.proofs.state.counter_unknown.Tie as tie
 
-mul-operation : tie.Need-mul-operation
-mul-operation c = search needs
+mul-if1 : tie.Need-mul-if1
+mul-if1 c = search needs
 
-shared-slice-read-operation : tie.Need-shared-slice-read-operation
-shared-slice-read-operation c = search needs
+shared-slice-read-if1 : tie.Need-shared-slice-read-if1
+shared-slice-read-if1 c = search needs
 
 returns : tie.Need-returns
 unfolding counterUnknown
 returns c = rw (eq-eqb _ _ (c .if1 .taken))
 
+above-requires : tie.Need-above-requires
+above-requires c κs = search needs
+
 returns-2 : tie.Need-returns-2
 unfolding counterUnknown
-returns-2 c = rw (ne-eqb _ _ (c .before .if1 .left), lt-ltb _ _ (c .if2 .taken))
+returns-2 c = rw (ne-eqb _ _ (c .before .before .if1 .left), sym (c .before .above .ensures) ∙ c .if2 .taken)
 
-add-if3 : tie.Need-add-if3
-add-if3 c = search needs
+add-above : tie.Need-add-above
+add-above c = search needs
 
-mul-if3 : tie.Need-mul-if3
-mul-if3 c = search needs
-
-shared-slice-read-if3 : tie.Need-shared-slice-read-if3
-shared-slice-read-if3 c = search needs
+above-requires-2 : tie.Need-above-requires-2
+above-requires-2 c κs = search needs
 
 returns-3 : tie.Need-returns-3
 unfolding counterUnknown
 returns-3 c =
     rw (
-      ne-eqb _ _ (c .before .before .before .if1 .left),
-      le-ltb _ _ (c .before .before .if2 .left),
-      lt-ltb _ _ (c .if3 .taken),
+      ne-eqb _ _ (c .before .before .before .before .if1 .left),
+      sym (c .before .before .before .above .ensures) ∙ c .before .before .if2 .left,
+      sym (c .before .above2 .ensures) ∙ c .if3 .taken,
     )
 
-add-result : tie.Need-add-result
-add-result c = search needs
+add-above-2 : tie.Need-add-above-2
+add-above-2 c = search needs
 
-mul-result : tie.Need-mul-result
-mul-result c = search needs
-
-shared-slice-read-result : tie.Need-shared-slice-read-result
-shared-slice-read-result c = search needs
+above-requires-3 : tie.Need-above-requires-3
+above-requires-3 c κs = search needs
 
 returns-4 : tie.Need-returns-4
 unfolding counterUnknown
 returns-4 c =
     rw (
-      ne-eqb _ _ (c .before .before .before .before .if1 .left),
-      le-ltb _ _
-          (c .before .before .before .if2 .left),
-      le-ltb _ _ (c .before .if3 .left),
+      ne-eqb _ _ (c .before .before .before .before .before .if1 .left),
+      sym (c .before .before .before .before .above .ensures) ∙ c .before .before .before .if2 .left,
+      sym (c .before .before .above2 .ensures) ∙ c .before .if3 .left,
     )
+    (c .above3 .ensures)
 
 pub counter-unknown-spec : {M : Type 1} → statement M
 counter-unknown-spec =
     tie.close
     (tie.spec
-    mul-operation
-    shared-slice-read-operation
+    mul-if1
+    shared-slice-read-if1
     returns
+    above-requires
     returns-2
-    add-if3
-    mul-if3
-    shared-slice-read-if3
+    add-above
+    above-requires-2
     returns-3
-    add-result
-    mul-result
-    shared-slice-read-result
+    add-above-2
+    above-requires-3
     returns-4)
