@@ -1,6 +1,10 @@
 // process_event of framework.rs, but for the machines' transitions: what an event counts, and which
 // machines hear it. Each function takes the numbers that it reads and never the framework.
+use machine::constants::FIRST_STATE;
 use machine::constants::MACHINE_WORDS;
+use machine::constants::MAX_BLOCKING_FRAC;
+use machine::constants::MAX_PADDING_FRAC;
+use machine::constants::NUM_STATES;
 use machine::event::BLOCKING_BEGIN;
 use machine::event::BLOCKING_END;
 use machine::event::NORMAL_SENT;
@@ -166,7 +170,11 @@ pub fn states_of<'a>(machines: &[u64], states: &'a [u64], m: usize) -> &'a [u64]
         now r ≡ rowsOf stateWords (now (states .entry)) first count) ⌝ }
 {
     let at = m * MACHINE_WORDS;
-    state_rows(states, word(machines, at + 4), word(machines, at + 5))
+    state_rows(
+        states,
+        word(machines, at + FIRST_STATE),
+        word(machines, at + NUM_STATES),
+    )
 }
 
 // Whether a turn changes the machine's counts alone: no next state was chosen, and the event is none
@@ -204,8 +212,8 @@ pub fn context_from(
 {
     let at = m * MACHINE_WORDS;
     let allowed_padding_packets = word(machines, at);
-    let machine_padding_frac = numbers::f64_of_word(word(machines, at + 1));
-    let machine_blocking_frac = numbers::f64_of_word(word(machines, at + 3));
+    let machine_padding_frac = numbers::f64_of_word(word(machines, at + MAX_PADDING_FRAC));
+    let machine_blocking_frac = numbers::f64_of_word(word(machines, at + MAX_BLOCKING_FRAC));
     Context {
         machine: m as u64,
         allowed_padding_packets: allowed_padding_packets,

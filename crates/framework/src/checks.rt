@@ -1,6 +1,7 @@
 // What a batch refuses beside its tables: a framework that does not fit them (18), and events that
 // are not whole or of an unknown kind (19).
 use machine::constants::MACHINE_WORDS;
+use machine::constants::NUM_STATES;
 use machine::constants::STATE_END;
 use machine::state::word;
 use steps::Framework;
@@ -33,7 +34,10 @@ pub fn states_fit(fw: Framework, machines: &[u64], count: usize) -> bool
     let mut m = 0;
     while m < count {
         let r = fw.runtime[m];
-        if state_fits(r.current_state, word(machines, m * MACHINE_WORDS + 5)) {
+        if state_fits(
+            r.current_state,
+            word(machines, m * MACHINE_WORDS + NUM_STATES),
+        ) {
             m = m + 1;
         } else {
             return false;

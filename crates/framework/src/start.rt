@@ -2,6 +2,7 @@
 use super::account::states_of;
 use machine::action::sample_limit;
 use machine::constants::ACTION;
+use machine::constants::ALLOWED_BLOCKED_MICROSEC;
 use machine::constants::MACHINE_WORDS;
 use machine::dist::Whole;
 use machine::dist::WholeDrawn;
@@ -109,7 +110,7 @@ pub fn open_machines(
                 return unopened(n);
             }
             WholeDrawn::GotWhole(w) => {
-                let allowed = word(machines, m * MACHINE_WORDS + 2);
+                let allowed = word(machines, m * MACHINE_WORDS + ALLOWED_BLOCKED_MICROSEC);
                 let r = new_runtime(time, allowed, w.value);
                 f.runtime[m] = r;
                 at = w.at;

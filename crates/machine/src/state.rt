@@ -5,12 +5,11 @@ use super::constants::STATE_WORDS;
 use super::constants::TRANSITION_WORDS;
 use super::constants::UNFIT_DRAW;
 ghost use mathlib.Core.Path.{_≡_};
-ghost use Prim.Native.Nat.{_-_, _*_, _≤_, _<_, min};
-ghost use lib.ListN.{length, getD};
-ghost use lib.Ieee.{binary32, ofBits};
-ghost use Rattle.machine.specs.Constants.{eventNum, stateWords, transitionWords};
+ghost use Prim.Native.Nat.{_*_, _≤_, _<_, min};
+ghost use lib.ListN.{getD};
+ghost use Rattle.machine.specs.Constants.{eventNum, stateWords};
 ghost use Rattle.machine.specs.State.{rowsOf, stateRow, firstOf, countOf};
-ghost use Rattle.machine.specs.State.{chanceDraw, walk, sampleState};
+ghost use Rattle.machine.specs.State.{chanceDraw, sampleState};
 
 // A chance that was drawn, and where the chance tape goes on; or the refusal.
 pub enum ChanceDrawn {
@@ -99,32 +98,32 @@ pub fn chance_draw(chances: &[f32], at: usize) -> ChanceDrawn
 
 // ---- State::sample_state
 
-// The first target, from row `start` to `end`, at which the running sum exceeds the draw.
-fn first_above(transitions: &[u64], start: usize, end: usize, draw: f32) -> Next
-    requires { ⌜ start ≤ end ⌝ ∗ ⌜ end * transitionWords ≤ length (now transitions) ⌝ }
-    ensures { λ r. ⌜ r ≡ walk (now (transitions .entry)) start (end - start) (ofBits binary32 0) draw ⌝ }
-{
-    let mut i = start;
-    let mut sum: f32 = 0.0;
-    while i < end {
-        let at = i * TRANSITION_WORDS;
-        sum = sum + numbers::f32_of_word(transitions[at + 1]);
-        if draw < sum {
-            return Next::State(transitions[at]);
-        }
-        i = i + 1;
-    }
-    Next::Nothing
-}
-
-// The choice among the `count` rows from row `first` on, none where the table ends before them. The
-// sum stops at the largest u64, beyond every table.
+// The first target of the row at which the running sum exceeds the draw. Neither the first row nor
+// the count is trusted to lie within the table.
 pub fn sample_state(transitions: &[u64], first: u64, count: u64, draw: f32) -> Next
     ensures { λ r. ⌜ r ≡ sampleState (now (transitions .entry)) first count draw ⌝ }
 {
-    let end = numbers::saturating_add(first, count) as usize;
-    if transitions.len() / TRANSITION_WORDS < end {
+    let rows = transitions.len() / TRANSITION_WORDS;
+    let start = first as usize;
+    if rows < start {
         return Next::Nothing;
     }
-    first_above(transitions, first as usize, end, draw)
+    let n = count as usize;
+    if rows - start < n {
+        return Next::Nothing;
+    }
+    let end = start + n;
+    let mut i = start;
+    let mut sum: f32 = 0.0;
+    loop {
+        if end <= i {
+            break Next::Nothing;
+        }
+        let at = i * TRANSITION_WORDS;
+        sum = sum + numbers::f32_of_word(transitions[at + 1]);
+        if draw < sum {
+            break Next::State(transitions[at]);
+        }
+        i = i + 1;
+    }
 }

@@ -1,4 +1,8 @@
 // machine.rs, `Machine::validate`: refusals 4 to 7, then the machine's states.
+use machine::constants::FIRST_STATE;
+use machine::constants::MAX_BLOCKING_FRAC;
+use machine::constants::MAX_PADDING_FRAC;
+use machine::constants::NUM_STATES;
 use machine::constants::STATE_MAX;
 use machine::constants::STATE_WORDS;
 ghost use mathlib.Core.Path.{_≡_};
@@ -6,15 +10,6 @@ ghost use Prim.Native.Nat.{_*_, _≤_};
 ghost use lib.ListN.{length};
 ghost use Rattle.machine.specs.Constants.{machineWords, stateWords, stateMax};
 ghost use Rattle.tables.specs.Machine.{beyondFraction, machineRefusal, statesRefusal, eachState};
-
-// Where the fields of a machine row begin.
-const MAX_PADDING_FRAC: usize = 1;
-
-const MAX_BLOCKING_FRAC: usize = 3;
-
-const FIRST_STATE: usize = 4;
-
-const NUM_STATES: usize = 5;
 
 // Below 0 or above 1: a NaN passes.
 fn beyond_fraction(x: f64) -> bool
