@@ -3,3 +3,4 @@ pub mod Dists
 pub mod Bits
 pub mod Seen
 pub mod Parts
+pub mod Words

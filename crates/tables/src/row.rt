@@ -24,6 +24,9 @@ const SHORT_ROW: usize = 32;
 // The most states whose marks fit 16 words.
 const FEW_STATES: u64 = 1022;
 
+// The word of the probability 1. The words of those above 0 up to 1 are 1 to this one.
+const ONE: u64 = 0x3f80_0000;
+
 // ---- one transition
 
 // The target of transition i.
@@ -42,12 +45,16 @@ fn probability_word(transitions: &[u64], i: usize) -> u64
     transitions[i * TRANSITION_WORDS + 1]
 }
 
-// Its probability.
+// Its probability. A word up to ONE is no NaN pattern.
 fn probability_at(transitions: &[u64], i: usize) -> f32
     requires { ⌜ (i + 1) * 2 ≤ length (now transitions) ⌝ }
     ensures { λ r. ⌜ r ≡ probabilityAt (now (transitions .entry)) i ⌝ }
 {
-    numbers::f32_of_word(probability_word(transitions, i))
+    let word = probability_word(transitions, i);
+    if word <= ONE {
+        return f32::from_bits(word as u32);
+    }
+    numbers::f32_of_word(word)
 }
 
 // A state of the machine, or a special one.
@@ -73,8 +80,8 @@ fn improbable(p: f32) -> bool
     p > 1.0
 }
 
-// Refusals 9 to 12 of transition i; `seen`: its target stood in its row before.
-fn check_transition(transitions: &[u64], n: u64, i: usize, seen: bool) -> u64
+// Refusals 9 to 12 of transition i, test by test; `seen`: its target stood in its row before.
+fn check_in_order(transitions: &[u64], n: u64, i: usize, seen: bool) -> u64
     requires { ⌜ (i + 1) * 2 ≤ length (now transitions) ⌝ }
     ensures { λ r. ⌜ r ≡ Spec.transitionRefusal (now (transitions .entry)) n i seen ⌝ }
 {
@@ -91,6 +98,22 @@ fn check_transition(transitions: &[u64], n: u64, i: usize, seen: bool) -> u64
         return 0;
     }
     10
+}
+
+// The same. Most transitions go to a state of the machine with a probability above 0 up to 1: such a
+// one is refused only where its target repeats.
+fn check_transition(transitions: &[u64], n: u64, i: usize, seen: bool) -> u64
+    requires { ⌜ (i + 1) * 2 ≤ length (now transitions) ⌝ }
+    ensures { λ r. ⌜ r ≡ Spec.transitionRefusal (now (transitions .entry)) n i seen ⌝ }
+{
+    let word = probability_word(transitions, i);
+    if target_at(transitions, i) < n && word != 0 && word <= ONE {
+        if seen {
+            return 11;
+        }
+        return 0;
+    }
+    check_in_order(transitions, n, i, seen)
 }
 
 // Refusal 13.
