@@ -1,91 +1,76 @@
--- What an event counts, field by field, is what `accounted` says of the whole framework; the kinds of checked events.
+-- What an event counts is what `accounted` says of the whole framework; the kinds of checked events.
 use Prim.Native.Nat.{ℕ, _≤_, _<_}
-use mathlib.Core.Path.{_≡_, refl, sym, ap, subst}
-use mathlib.Core.Bool.{true, false}
+use mathlib.Core.Path.{_≡_, refl}
+use mathlib.Core.Bool.{Bool, true, false, cond, not}
 use mathlib.Core.List.{List}
 use mathlib.Core.Logic.{⊎-elim}
 use native.Mathlib.Omega.{arith}
 use lib.Dec.{eqb, leb, ltb}
-use borrow.Author.Tests.{leb-true, eqb-true}
+use borrow.Author.Tests.{leb-true}
 use Rattle.numbers.specs.Saturating.{saturatingAdd}
 use Rattle.machine.specs.Event.{eventOf, normalSent, paddingSent, blockingBegin, blockingEnd}
-use Rattle.steps.specs.Events.{withBlocking, blockedFor, accounted, kindAt}
+use Rattle.steps.specs.Events.{withPackets, withBlocking, blockedFor, accounted, kindAt}
 use Rattle.steps.specs.Framework.{kindsFit}
 use Rattle.steps.specs.declared.Framework.{Framework}
-use Rattle.framework.specs.Account.{blockedSince, normalAfter, paddingAfter, durationAfter, startedAfter, activeAfter}
+use Rattle.framework.specs.Account.{blockedSince, totals, totalsAfter}
+use Rattle.framework.specs.declared.account.Totals.{Totals}
 use Rattle.framework.proofs.All.{all-at, bool-cases}
 
-abbrev pub withCounts : Framework → ℕ → ℕ → ℕ → ℕ → ℕ → Framework
-withCounts fw normal padding duration started active = record {
+abbrev pub withTotals : Framework → Totals → Framework
+withTotals fw t = record {
   machines = fw .machines;
   «current_time» = fw .«current_time»;
   «max_padding_frac» = fw .«max_padding_frac»;
-  «normal_sent_packets» = normal;
-  «padding_sent_packets» = padding;
+  «normal_sent_packets» = t .«normal_sent_packets»;
+  «padding_sent_packets» = t .«padding_sent_packets»;
   «max_blocking_frac» = fw .«max_blocking_frac»;
-  «blocking_duration» = duration;
-  «blocking_started» = started;
-  «blocking_active» = active;
+  «blocking_duration» = t .«blocking_duration»;
+  «blocking_started» = t .«blocking_started»;
+  «blocking_active» = t .«blocking_active»;
   «signal_pending» = fw .«signal_pending»;
   «framework_start» = fw .«framework_start»;
   runtime = fw .runtime;
 }
 
-abbrev pub afterCounts : ℕ → Framework → Framework
-afterCounts kind fw =
-    withCounts fw (normalAfter kind (fw .«normal_sent_packets»)) (paddingAfter kind (fw .«padding_sent_packets»))
-    (durationAfter kind (fw .«blocking_active») (fw .«blocking_duration»)
-    (blockedSince (fw .«blocking_active») (fw .«current_time») (fw .«blocking_started»)))
-    (startedAfter kind (fw .«blocking_active») (fw .«blocking_started») (fw .«current_time»))
-    (activeAfter kind (fw .«blocking_active»))
+abbrev pub totalsOf : Framework → Totals
+totalsOf fw =
+    totals (fw .«normal_sent_packets») (fw .«padding_sent_packets») (fw .«blocking_duration») (fw .«blocking_started»)
+    (fw .«blocking_active»)
 
-pub blocked-is : (fw : Framework) →
-    blockedFor fw ≡ blockedSince (fw .«blocking_active») (fw .«current_time») (fw .«blocking_started»)
+abbrev pub since : Framework → ℕ
+since fw = blockedSince (fw .«blocking_active») (fw .«current_time») (fw .«blocking_started»)
+
+pub blocked-is : (fw : Framework) → blockedFor fw ≡ since fw
 unfolding blockedFor blockedSince
 blocked-is fw = refl
 
-module _ (fw : Framework) where
-  at-sent : accounted normalSent fw ≡ afterCounts normalSent fw
-  unfolding accounted normalAfter paddingAfter durationAfter startedAfter activeAfter
-  at-sent = refl
-
-  at-padding : accounted paddingSent fw ≡ afterCounts paddingSent fw
-  unfolding accounted normalAfter paddingAfter durationAfter startedAfter activeAfter
-  at-padding = refl
-
-  at-begin : accounted blockingBegin fw ≡ afterCounts blockingBegin fw
-  unfolding accounted normalAfter paddingAfter durationAfter startedAfter activeAfter
-  at-begin = ⊎-elim (λ off. rw off) (λ on. rw on) (bool-cases (eqb (fw .«blocking_active») 0))
-
-  at-end : accounted blockingEnd fw ≡ afterCounts blockingEnd fw
-  unfolding accounted normalAfter paddingAfter durationAfter startedAfter activeAfter
-  at-end =
-      ⊎-elim
-      (λ off. rw off)
-      (λ on. rw on (ap (λ (b : ℕ). ended b) (blocked-is fw)))
-      (bool-cases (eqb (fw .«blocking_active») 0))
-    where
-      ended : ℕ → Framework
-      ended b = withBlocking fw (saturatingAdd (fw .«blocking_duration») b) (fw .«blocking_started») 0
-
-  module _ (kind : ℕ) where
-    at-kind : (k : ℕ) → accounted k fw ≡ afterCounts k fw → eqb kind k ≡ true → accounted kind fw ≡ afterCounts kind fw
-    at-kind k e is = subst (λ (j : ℕ). accounted j fw ≡ afterCounts j fw) (sym (eqb-true kind k is)) e
-
-    at-other : eqb kind normalSent ≡ false → eqb kind paddingSent ≡ false → eqb kind blockingBegin ≡ false →
-        eqb kind blockingEnd ≡ false → accounted kind fw ≡ afterCounts kind fw
-    unfolding accounted normalAfter paddingAfter durationAfter startedAfter activeAfter
-    at-other a b c d = simp (a, b, c, d)
-
-    pub accounted-is : accounted kind fw ≡ afterCounts kind fw
-    accounted-is =
-        ⊎-elim (at-kind normalSent at-sent)
-        (λ a. ⊎-elim (at-kind paddingSent at-padding)
-        (λ b. ⊎-elim (at-kind blockingBegin at-begin)
-        (λ c. ⊎-elim (at-kind blockingEnd at-end) (at-other a b c) (bool-cases (eqb kind blockingEnd)))
-        (bool-cases (eqb kind blockingBegin)))
-        (bool-cases (eqb kind paddingSent)))
-        (bool-cases (eqb kind normalSent))
+pub accounted-is : (fw : Framework) (kind : ℕ) →
+    accounted kind fw ≡ withTotals fw (totalsAfter kind (totalsOf fw) (fw .«current_time») (since fw))
+unfolding accounted totalsAfter
+accounted-is fw kind =
+    rw (blocked-is fw)
+    (by-case (eqb kind normalSent) (eqb kind paddingSent) (eqb kind blockingBegin) (eqb kind blockingEnd)
+    (eqb (fw .«blocking_active») 0))
+  where
+    by-case : (sent pads begins ends off : Bool) →
+        cond sent (withPackets fw (saturatingAdd (fw .«normal_sent_packets») 1) (fw .«padding_sent_packets»))
+        (cond pads (withPackets fw (fw .«normal_sent_packets») (saturatingAdd (fw .«padding_sent_packets») 1))
+        (cond begins (cond (not off) fw (withBlocking fw (fw .«blocking_duration») (fw .«current_time») 1))
+        (cond ends (cond (not off) (withBlocking fw (saturatingAdd (fw .«blocking_duration») (since fw)) (fw .«blocking_started») 0) fw)
+        fw)))
+        ≡ withTotals fw
+        (cond sent (totals (saturatingAdd (fw .«normal_sent_packets») 1) (fw .«padding_sent_packets») (fw .«blocking_duration») (fw .«blocking_started») (fw .«blocking_active»))
+        (cond pads (totals (fw .«normal_sent_packets») (saturatingAdd (fw .«padding_sent_packets») 1) (fw .«blocking_duration») (fw .«blocking_started») (fw .«blocking_active»))
+        (cond begins (cond (not off) (totalsOf fw) (totals (fw .«normal_sent_packets») (fw .«padding_sent_packets») (fw .«blocking_duration») (fw .«current_time») 1))
+        (cond ends (cond (not off) (totals (fw .«normal_sent_packets») (fw .«padding_sent_packets») (saturatingAdd (fw .«blocking_duration») (since fw)) (fw .«blocking_started») 0) (totalsOf fw))
+        (totalsOf fw)))))
+    by-case true pads begins ends off = refl
+    by-case false true begins ends off = refl
+    by-case false false true ends true = refl
+    by-case false false true ends false = refl
+    by-case false false false true true = refl
+    by-case false false false true false = refl
+    by-case false false false false off = refl
 
 pub kind-fits : (es : List ℕ) (i n : ℕ) → i < n → kindsFit es n ≡ true → kindAt es i ≤ 9
 unfolding kindsFit

@@ -1,8 +1,10 @@
 -- The run over events, a turn at a time: of the event taken some machines are left, then the events that follow.
 use Prim.Native.Nat.{ℕ, zero, suc, _+_, _-_, _≤_, _<_}
-use mathlib.Core.Path.{_≡_, refl, _∙_}
+use mathlib.Core.Path.{_≡_, refl, sym, _∙_}
 use mathlib.Core.List.{List}
-use mathlib.Core.Bool.{Bool, true, false, false≢true}
+use mathlib.Core.Bool.{Bool, true, false, not, _&&_, false≢true}
+use lib.Dec.{eqb}
+use Rattle.machine.specs.Constants.{stateEnd}
 use native.Mathlib.Nat.{sub-zero}
 use native.Mathlib.Omega.{arith}
 use lib.ListN.{getD, set}
@@ -12,7 +14,7 @@ use Rattle.machine.specs.declared.state.Next.{Next}
 use Rattle.machine.specs.declared.state.Next.the-variants.{State, Nothing}
 use Rattle.steps.specs.Transition.{Env, noAction, done, withChanceAt}
 use Rattle.steps.specs.Events.{Tables, Tapes, Run, Outcome, stop, go, andThen, each, numMachines, runtimeAt, withRuntime, statesOf}
-use Rattle.steps.specs.Events.{envOf, countedBy, limitFalls, afterTransition, turn, machineTurn, firstFor, turnsFor, processEvent, kindAt, machineAt, eventTurn}
+use Rattle.steps.specs.Events.{contextOf, envOf, countedBy, limitFalls, afterTransition, turn, machineTurn, firstFor, turnsFor, processEvent, kindAt, machineAt, eventTurn}
 use Rattle.steps.specs.declared.Framework.{Framework}
 use Rattle.steps.specs.declared.MachineRuntime.{MachineRuntime}
 use Rattle.steps.specs.declared.Shared.{Shared}
@@ -21,12 +23,14 @@ use Rattle.steps.specs.declared.Stepped.{Stepped}
 use Rattle.steps.specs.declared.Stepped.the-variants.{Refused, Done}
 use Rattle.steps.specs.declared.TriggerAction.{TriggerAction}
 use Rattle.transition.specs.Choice.{choose, turn-missing, turn-chosen}
+use Rattle.transition.specs.Settle.{Settles}
 use Rattle.transition.specs.Transition.{goingAt}
 use Rattle.transition.specs.declared.choice.Choice.{Choice}
 use Rattle.transition.specs.declared.choice.Choice.the-variants.{Missing, Chosen}
-use Rattle.framework.specs.Account.{onlyCounts, blockedSince, normalAfter, paddingAfter, durationAfter, startedAfter, activeAfter}
+use Rattle.framework.specs.Account.{onlyCounts, totalsAfter}
+use Rattle.framework.specs.declared.account.Totals.{Totals}
 use Rattle.framework.specs.Run.{run}
-use Rattle.framework.proofs.Counts.{withCounts, afterCounts, blocked-is, accounted-is}
+use Rattle.framework.proofs.Counts.{withTotals, totalsOf, since, blocked-is, accounted-is}
 
 -- a turn of `each`
 module _ (f : ℕ → Run → Outcome) (n i : ℕ) (x : Run) where
@@ -74,8 +78,14 @@ only E true next r s p e = absurd (false≢true e)
 only E false (State next) r s p e = absurd (false≢true e)
 only E false Nothing r s p e = refl
 
-abbrev since : Framework → ℕ
-since fw = blockedSince (fw .«blocking_active») (fw .«current_time») (fw .«blocking_started»)
+-- where no limit falls
+stays : (E : Env) (falls : Bool) (d : Step) → (falls && not (d .changed)) ≡ false → afterTransition E falls (Done d) ≡ Done d
+stays E falls d e = rw (both falls (not (d .changed)) (not (eqb (d .runtime .«current_state») stateEnd)) e)
+  where
+    both : (a b c : Bool) → (a && b) ≡ false → (a && b && c) ≡ false
+    both true true c e = absurd (false≢true (sym e))
+    both true false c e = refl
+    both false b c e = refl
 
 abbrev upTo : ℕ → ℕ → Framework → ℕ
 upTo kind machine fw = firstFor kind machine + turnsFor kind machine (numMachines fw)
@@ -108,33 +118,26 @@ module _ {o : Outcome} {T : Tables} {D : Tapes} {es : List ℕ} {n kind machine 
     on =
         turn-chosen (envOf T D fw m) kind blocked (limitFalls kind machine m) (runtimeAt fw m) s (getD actions m noAction) chosen
 
-    -- where the machine's own limit may fall
-    own-on : {d : Step} {y : Stepped} →
-        goingOn T D kind blocked m fw actions s next at ≡ Done d → limitFalls kind machine m ≡ true →
-        afterTransition (envOf T D fw m) true (Done d) ≡ y →
-        turned T D kind machine blocked m fw actions s ≡ y
-    own-on g own after = on ∙ rw (g, own) after
-
-    pub ahead-refused : {why : ℕ} → goingOn T D kind blocked m fw actions s next at ≡ Refused why → o ≡ stop why
-    ahead-refused g = ahead-stops h (on ∙ rw g)
+    -- and the fall of its limit
+    pub ahead-refused : {why : ℕ} →
+        afterTransition (envOf T D fw m) (limitFalls kind machine m) (goingOn T D kind blocked m fw actions s next at) ≡ Refused why →
+        o ≡ stop why
+    ahead-refused g = ahead-stops h (on ∙ g)
 
     pub ahead-done : {d : Step} →
-        goingOn T D kind blocked m fw actions s next at ≡ Done d → limitFalls kind machine m ≡ false →
+        afterTransition (envOf T D fw m) (limitFalls kind machine m) (goingOn T D kind blocked m fw actions s next at) ≡ Done d →
         Ahead o T D es n kind machine blocked (m + 1) end i
         (withRuntime fw (set (fw .runtime) m (d .runtime))) (set actions m (d .action)) (d .shared)
-    ahead-done {d = d} g still = ahead-turn h {d = d} (on ∙ rw (g, still))
+    ahead-done g = ahead-turn h (on ∙ g)
 
-    pub ahead-own-refused : {d : Step} {why : ℕ} →
-        goingOn T D kind blocked m fw actions s next at ≡ Done d → limitFalls kind machine m ≡ true →
-        afterTransition (envOf T D fw m) true (Done d) ≡ Refused why → o ≡ stop why
-    ahead-own-refused g own after = ahead-stops h (own-on g own after)
-
-    pub ahead-own : {d e : Step} →
-        goingOn T D kind blocked m fw actions s next at ≡ Done d → limitFalls kind machine m ≡ true →
-        afterTransition (envOf T D fw m) true (Done d) ≡ Done e →
+    -- the short way
+    pub ahead-settled : {d : Step} →
+        Settles (statesOf T m) (D .values) (contextOf T fw m) next (limitFalls kind machine m)
+        (countedBy kind blocked (runtimeAt fw m)) (withChanceAt s at) (getD actions m noAction) d →
         Ahead o T D es n kind machine blocked (m + 1) end i
-        (withRuntime fw (set (fw .runtime) m (e .runtime))) (set actions m (e .action)) (e .shared)
-    ahead-own g own after = ahead-turn h (own-on g own after)
+        (withRuntime fw (set (fw .runtime) m (d .runtime))) (set actions m (d .action)) (d .shared)
+    ahead-settled {d = d} way =
+        ahead-done {d = d} (rw (way .is 2 (T .transitions) (D .chances)) (stays (envOf T D fw m) (limitFalls kind machine m) d (way .still)))
 
     pub ahead-counts : onlyCounts (limitFalls kind machine m) next ≡ true →
         Ahead o T D es n kind machine blocked (m + 1) end i
@@ -159,7 +162,8 @@ module _ {o : Outcome} {T : Tables} {D : Tapes} {es : List ℕ} {n kind machine 
   -- the next event is taken: the framework's counts first
   event-taken : end ≤ m → i < n →
       Ahead o T D es n (kindAt es i) (machineAt es i) (since fw) (firstFor (kindAt es i) (machineAt es i))
-      (upTo (kindAt es i) (machineAt es i) fw) (i + 1) (afterCounts (kindAt es i) fw) actions s
+      (upTo (kindAt es i) (machineAt es i) fw) (i + 1)
+      (withTotals fw (totalsAfter (kindAt es i) (totalsOf fw) (fw .«current_time») (since fw))) actions s
   unfolding processEvent
   event-taken h more =
       let k = kindAt es i in
@@ -173,16 +177,11 @@ module _ {o : Outcome} {T : Tables} {D : Tapes} {es : List ℕ} {n kind machine 
       }
 
   -- the same, of what the code works out
-  pub ahead-event : end ≤ m → i < n → {b first last normal padding duration started active : ℕ} →
+  pub ahead-event : end ≤ m → i < n → {b first last : ℕ} {t : Totals} →
       b ≡ since fw →
       first ≡ firstFor (kindAt es i) (machineAt es i) →
       last ≡ upTo (kindAt es i) (machineAt es i) fw →
-      normal ≡ normalAfter (kindAt es i) (fw .«normal_sent_packets») →
-      padding ≡ paddingAfter (kindAt es i) (fw .«padding_sent_packets») →
-      duration ≡ durationAfter (kindAt es i) (fw .«blocking_active») (fw .«blocking_duration») b →
-      started ≡ startedAfter (kindAt es i) (fw .«blocking_active») (fw .«blocking_started») (fw .«current_time») →
-      active ≡ activeAfter (kindAt es i) (fw .«blocking_active») →
-      Ahead o T D es n (kindAt es i) (machineAt es i) b first last (i + 1)
-      (withCounts fw normal padding duration started active) actions s
-  ahead-event h more since-is first-is last-is normal-is padding-is duration-is started-is active-is =
-      rw (normal-is, padding-is, duration-is, started-is, active-is, since-is, first-is, last-is) (event-taken h more)
+      t ≡ totalsAfter (kindAt es i) (totalsOf fw) (fw .«current_time») b →
+      Ahead o T D es n (kindAt es i) (machineAt es i) b first last (i + 1) (withTotals fw t) actions s
+  ahead-event h more since-is first-is last-is total-is =
+      rw (total-is, since-is, first-is, last-is) (event-taken h more)

@@ -12,6 +12,7 @@ use Rattle.machine.specs.declared.state.Next.{Next}
 use Rattle.machine.specs.declared.state.Next.the-variants.{State, Nothing}
 use Rattle.steps.specs.Events.{machineWord}
 use Rattle.steps.specs.declared.Context.{Context}
+use Rattle.framework.specs.declared.account.Totals.{Totals}
 
 abbrev pub isOn : ℕ → Bool
 isOn active = not (eqb active 0)
@@ -20,25 +21,29 @@ isOn active = not (eqb active 0)
 unfoldable pub blockedSince : ℕ → ℕ → ℕ → ℕ
 blockedSince active time started = cond (isOn active) (time - started) 0
 
-unfoldable pub normalAfter : ℕ → ℕ → ℕ
-normalAfter kind normal = cond (eqb kind normalSent) (saturatingAdd normal 1) normal
+-- the counts that an event changes
+abbrev pub totals : ℕ → ℕ → ℕ → ℕ → ℕ → Totals
+totals normal padding duration started active = record {
+  «normal_sent_packets» = normal;
+  «padding_sent_packets» = padding;
+  «blocking_duration» = duration;
+  «blocking_started» = started;
+  «blocking_active» = active;
+}
 
-unfoldable pub paddingAfter : ℕ → ℕ → ℕ
-paddingAfter kind padding = cond (eqb kind paddingSent) (saturatingAdd padding 1) padding
-
--- an end while blocking is off adds nothing
-unfoldable pub durationAfter : ℕ → ℕ → ℕ → ℕ → ℕ
-durationAfter kind active duration blocked =
-    cond (eqb kind blockingEnd) (cond (isOn active) (saturatingAdd duration blocked) duration) duration
-
--- a begin while blocking is on does not move the start
-unfoldable pub startedAfter : ℕ → ℕ → ℕ → ℕ → ℕ
-startedAfter kind active started time = cond (eqb kind blockingBegin) (cond (isOn active) started time) started
-
-unfoldable pub activeAfter : ℕ → ℕ → ℕ
-activeAfter kind active =
-    cond (eqb kind blockingBegin) (cond (isOn active) active 1)
-    (cond (eqb kind blockingEnd) (cond (isOn active) 0 active) active)
+-- what it makes of them; `blocked` is how long the ongoing blocking has been on
+unfoldable pub totalsAfter : ℕ → Totals → ℕ → ℕ → Totals
+totalsAfter kind t time blocked =
+    let normal = t .«normal_sent_packets» in
+    let padding = t .«padding_sent_packets» in
+    let duration = t .«blocking_duration» in
+    let started = t .«blocking_started» in
+    let active = t .«blocking_active» in
+    cond (eqb kind normalSent) (totals (saturatingAdd normal 1) padding duration started active)
+    (cond (eqb kind paddingSent) (totals normal (saturatingAdd padding 1) duration started active)
+    (cond (eqb kind blockingBegin) (cond (isOn active) t (totals normal padding duration time 1))
+    (cond (eqb kind blockingEnd) (cond (isOn active) (totals normal padding (saturatingAdd duration blocked) started 0) t)
+    t)))
 
 -- a turn changes the machine's counts alone: no next state was chosen, and no limit falls
 unfoldable pub onlyCounts : Bool → Next → Bool

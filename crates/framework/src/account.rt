@@ -18,7 +18,7 @@ ghost use Prim.Native.Nat.{_+_, _≤_, _<_};
 ghost use Rattle.machine.specs.Constants.{stateWords, firstState, numStates};
 ghost use Rattle.machine.specs.State.{rowsOf};
 ghost use Rattle.steps.specs.Events.{ownOnly, limitFalls, firstFor, turnsFor, machineWord};
-ghost use Rattle.framework.specs.Account.{blockedSince, normalAfter, paddingAfter, durationAfter, startedAfter, activeAfter, onlyCounts, contextFrom};
+ghost use Rattle.framework.specs.Account.{blockedSince, totalsAfter, onlyCounts, contextFrom};
 
 // TimerBegin and TimerEnd among the kinds of `TriggerEvent`.
 const TIMER_BEGIN_KIND: u64 = 8;
@@ -26,6 +26,15 @@ const TIMER_BEGIN_KIND: u64 = 8;
 const TIMER_END_KIND: u64 = 9;
 
 // ---- the framework's own counts
+
+// The counts that an event changes, as `Framework` has them.
+pub struct Totals {
+    pub normal_sent_packets: u64,
+    pub padding_sent_packets: u64,
+    pub blocking_duration: u64,
+    pub blocking_started: u64,
+    pub blocking_active: u64,
+}
 
 // How long the ongoing blocking has been on.
 pub fn blocked_since(blocking_active: u64, current_time: u64, blocking_started: u64) -> u64
@@ -37,70 +46,37 @@ pub fn blocked_since(blocking_active: u64, current_time: u64, blocking_started: 
     numbers::time::saturating_duration_since(current_time, blocking_started)
 }
 
-pub fn normal_after(kind: u64, normal_sent_packets: u64) -> u64
-    ensures { λ r. ⌜ r ≡ normalAfter kind «normal_sent_packets» ⌝ }
+// What an event makes of them; `blocked` is how long the ongoing blocking has been on. A begin while
+// blocking is on does not move the start, and an end while it is off adds nothing.
+pub fn totals_after(kind: u64, t: Totals, current_time: u64, blocked: u64) -> Totals
+    ensures { λ r. ⌜ r ≡ totalsAfter kind t «current_time» blocked ⌝ }
 {
+    let mut u = t;
     if kind == NORMAL_SENT {
-        return numbers::saturating_add(normal_sent_packets, 1);
+        u.normal_sent_packets = numbers::saturating_add(t.normal_sent_packets, 1);
+        return u;
     }
-    normal_sent_packets
-}
-
-pub fn padding_after(kind: u64, padding_sent_packets: u64) -> u64
-    ensures { λ r. ⌜ r ≡ paddingAfter kind «padding_sent_packets» ⌝ }
-{
     if kind == PADDING_SENT {
-        return numbers::saturating_add(padding_sent_packets, 1);
+        u.padding_sent_packets = numbers::saturating_add(t.padding_sent_packets, 1);
+        return u;
     }
-    padding_sent_packets
-}
-
-// An end while blocking is off adds nothing.
-pub fn duration_after(kind: u64, blocking_active: u64, blocking_duration: u64, blocked: u64) -> u64
-    ensures { λ r. ⌜ r ≡ durationAfter kind «blocking_active» «blocking_duration» blocked ⌝ }
-{
-    if kind == BLOCKING_END {
-        if blocking_active == 0 {
-            return blocking_duration;
-        }
-        return numbers::saturating_add(blocking_duration, blocked);
-    }
-    blocking_duration
-}
-
-// A begin while blocking is on does not move the start.
-pub fn started_after(
-    kind: u64,
-    blocking_active: u64,
-    blocking_started: u64,
-    current_time: u64,
-) -> u64
-    ensures { λ r. ⌜ r ≡ startedAfter kind «blocking_active» «blocking_started» «current_time» ⌝ }
-{
     if kind == BLOCKING_BEGIN {
-        if blocking_active == 0 {
-            return current_time;
+        if t.blocking_active == 0 {
+            u.blocking_started = current_time;
+            u.blocking_active = 1;
+            return u;
         }
-    }
-    blocking_started
-}
-
-pub fn active_after(kind: u64, blocking_active: u64) -> u64
-    ensures { λ r. ⌜ r ≡ activeAfter kind «blocking_active» ⌝ }
-{
-    if kind == BLOCKING_BEGIN {
-        if blocking_active == 0 {
-            return 1;
-        }
-        return blocking_active;
+        return t;
     }
     if kind == BLOCKING_END {
-        if blocking_active == 0 {
-            return blocking_active;
+        if t.blocking_active == 0 {
+            return t;
         }
-        return 0;
+        u.blocking_duration = numbers::saturating_add(t.blocking_duration, blocked);
+        u.blocking_active = 0;
+        return u;
     }
-    blocking_active
+    t
 }
 
 // ---- whose turn it is

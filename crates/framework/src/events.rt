@@ -1,16 +1,13 @@
 // The events of a batch in order, each heard by its machines in order.
-use super::account::active_after;
+use super::account::Totals;
 use super::account::blocked_since;
 use super::account::context_from;
-use super::account::duration_after;
 use super::account::end_for;
 use super::account::first_for;
 use super::account::limit_falls;
-use super::account::normal_after;
 use super::account::only_counts;
-use super::account::padding_after;
-use super::account::started_after;
 use super::account::states_of;
+use super::account::totals_after;
 use machine::event::event_of;
 use steps::Framework;
 use steps::Ran;
@@ -20,6 +17,8 @@ use steps::TriggerAction;
 use steps::Verdict;
 use transition::choice::Choice;
 use transition::choice::choose;
+use transition::settle::Settled;
+use transition::settle::settle;
 ghost use mathlib.Core.Path.{_≡_};
 ghost use mathlib.Core.Bool.{true};
 ghost use Prim.Native.Nat.{_/_};
@@ -143,32 +142,43 @@ pub fn run_events(
                 f.framework_start,
             );
             let p = actions[m];
-            let x = transition::going(rows, transitions, chances, values, c, chosen, counted, s, p);
-            let d = match x {
-                Stepped::Refused(why) => return stopped(fw, why),
-                Stepped::Done(d) => d,
-            };
-            if falls {
-                let y = transition::after_own(rows, transitions, chances, values, c, d);
-                let e = match y {
-                    Stepped::Refused(why) => return stopped(fw, why),
-                    Stepped::Done(e) => e,
-                };
-                let r2 = e.runtime;
-                f.runtime[m] = r2;
-                let p2 = e.action;
-                actions[m] = p2;
-                s = e.shared;
-                m = m + 1;
-                continue;
+            let short = settle(rows, values, c, chosen, falls, counted, s, p);
+            match short {
+                Settled::Elsewhere => {}
+                Settled::At(d) => {
+                    s = d.shared;
+                    let p2 = d.action;
+                    actions[m] = p2;
+                    let r2 = d.runtime;
+                    f.runtime[m] = r2;
+                    m = m + 1;
+                    continue;
+                }
             }
-            let r2 = d.runtime;
-            f.runtime[m] = r2;
-            let p2 = d.action;
-            actions[m] = p2;
-            s = d.shared;
-            m = m + 1;
-            continue;
+            let went = transition::going(
+                rows,
+                transitions,
+                chances,
+                values,
+                c,
+                chosen,
+                counted,
+                s,
+                p,
+            );
+            let x = transition::after_own(rows, transitions, chances, values, c, falls, went);
+            match x {
+                Stepped::Refused(why) => return stopped(fw, why),
+                Stepped::Done(d) => {
+                    let r2 = d.runtime;
+                    f.runtime[m] = r2;
+                    let p2 = d.action;
+                    actions[m] = p2;
+                    s = d.shared;
+                    m = m + 1;
+                    continue;
+                }
+            }
         }
         if n <= i {
             return Ran {
@@ -183,16 +193,19 @@ pub fn run_events(
         blocked = blocked_since(f.blocking_active, f.current_time, f.blocking_started);
         m = first_for(kind, machine) as usize;
         end = end_for(kind, machine, numbers::smaller(f.machines, 16)) as usize;
-        f.normal_sent_packets = normal_after(kind, f.normal_sent_packets);
-        f.padding_sent_packets = padding_after(kind, f.padding_sent_packets);
-        f.blocking_duration = duration_after(kind, f.blocking_active, f.blocking_duration, blocked);
-        f.blocking_started = started_after(
-            kind,
-            f.blocking_active,
-            f.blocking_started,
-            f.current_time,
-        );
-        f.blocking_active = active_after(kind, f.blocking_active);
+        let before = Totals {
+            normal_sent_packets: f.normal_sent_packets,
+            padding_sent_packets: f.padding_sent_packets,
+            blocking_duration: f.blocking_duration,
+            blocking_started: f.blocking_started,
+            blocking_active: f.blocking_active,
+        };
+        let after = totals_after(kind, before, f.current_time, blocked);
+        f.normal_sent_packets = after.normal_sent_packets;
+        f.padding_sent_packets = after.padding_sent_packets;
+        f.blocking_duration = after.blocking_duration;
+        f.blocking_started = after.blocking_started;
+        f.blocking_active = after.blocking_active;
         i = i + 1;
     }
 }

@@ -16,12 +16,16 @@ use Rattle.machine.specs.declared.dist.WholeDrawn.{WholeDrawn}
 use Rattle.machine.specs.declared.dist.WholeDrawn.the-variants.{NoWhole, GotWhole}
 use Rattle.steps.specs.Transition.{Env, applied, counterOf, changedBy, changeOf, updateOne, unspent, left, withCounters, withZeroed, afterZero, updateCounter, zeroTransition, transitionAt, updateCounterAt}
 use Rattle.steps.specs.declared.Counter.{Counter}
-use Rattle.steps.specs.declared.Counted.the-variants.{NewValue}
+use Rattle.steps.specs.declared.Counted.{Counted}
+use Rattle.steps.specs.declared.Counted.the-variants.{Uncounted, NewValue}
 use Rattle.steps.specs.declared.MachineRuntime.{MachineRuntime}
 use Rattle.steps.specs.declared.Shared.{Shared}
 use Rattle.steps.specs.declared.TriggerAction.{TriggerAction}
 use Rattle.steps.specs.declared.Stepped.{Stepped}
 use Rattle.steps.specs.declared.Updated.the-variants.{Counters}
+use Rattle.transition.specs.Both.{withA, withB, updateBoth, update-counter-is}
+use Rattle.transition.specs.declared.counter.CountedBoth.{CountedBoth}
+use Rattle.transition.specs.declared.counter.CountedBoth.the-variants.{Neither, Both}
 
 -- ---- one counter
 abbrev one : Bool → ℕ
@@ -45,6 +49,9 @@ made-spent false false false value at = refl
 new-is : (a b : Counter) → NewValue a ≡ NewValue b → a ≡ b
 new-is a b e = cc
 
+both-are : {a b a' b' : Counter} → NewValue a ≡ NewValue a' → NewValue b ≡ NewValue b' → Both a b ≡ Both a' b'
+both-are e f = cc
+
 by-case : (operation old : ℕ) (z : Bool) (at : ℕ) (a : Counter) (none : Bool) (d : WholeDrawn) →
     cond none (counterOf false old z at) (changedBy operation old z d) ≡ NewValue a → Spent z a
 by-case operation old z at a true d e = subst (Spent z) (new-is _ _ e) (made-spent true true z old at)
@@ -66,18 +73,33 @@ sum-falls true false a b y z h k e = omega arith
 sum-falls false true a b y z h k e = omega arith
 sum-falls false false a b y z h k e = let o : _≡_ {A = ℕ} 0 1 = cc in omega arith
 
--- where a counter reports, fewer may still report
-module _ (row : List ℕ) (k l : ℕ) (values : List Float) (at at' old other old' other' : ℕ) (y z : Bool) (a b : Counter)
-    (at-a : updateOne row k values at old other y ≡ NewValue a)
-    (at-b : updateOne row l values at' old' other' z ≡ NewValue b)
-    (reports : (a .reports || b .reports) ≡ true) where
-  pub fewer : unspent (a .zeroed) + unspent (b .zeroed) < unspent y + unspent z
-  fewer =
-      sum-falls (a .reports) (b .reports) _ _ _ _ (spent row k values at old other y a at-a)
-      (spent row l values at' old' other' z b at-b) reports
+abbrev BothSpent : Shared → Counter → Counter → Type 0
+BothSpent s a b = Spent (s .«counter_a_zeroed») a × Spent (s .«counter_b_zeroed») b
 
-  pub one-less : (n : ℕ) → unspent y + unspent z ≤ n → unspent (a .zeroed) + unspent (b .zeroed) ≤ n - 1
-  one-less n h = omega (arith, fewer)
+module _ (row : List ℕ) (values : List Float) (r : MachineRuntime) (s : Shared) (a b : Counter) where
+  spent-b : (a' : Counter) → Spent (s .«counter_a_zeroed») a' → (y : Counted) →
+      updateOne row counterB values (a' .at) (r .«counter_b») (r .«counter_a») (s .«counter_b_zeroed») ≡ y →
+      withB a' y ≡ Both a b → BothSpent s a b
+  spent-b a' h (Uncounted n) e k = let o : _≡_ {A = ℕ} 0 1 = cc in omega arith
+  spent-b a' h (NewValue b') e k =
+      let one : a' ≡ a = cc in
+      let other : b' ≡ b = cc in (
+        subst (Spent (s .«counter_a_zeroed»)) one h,
+        subst (Spent (s .«counter_b_zeroed»)) other (spent row counterB values (a' .at) (r .«counter_b») (r .«counter_a») (s .«counter_b_zeroed») b' e),
+      )
+
+  spent-a : (x : Counted) →
+      updateOne row counterA values (s .«value_at») (r .«counter_a») (r .«counter_b») (s .«counter_a_zeroed») ≡ x →
+      withA row values r s x ≡ Both a b → BothSpent s a b
+  spent-a (Uncounted n) e k = let o : _≡_ {A = ℕ} 0 1 = cc in omega arith
+  spent-a (NewValue a') e k =
+      spent-b a' (spent row counterA values (s .«value_at») (r .«counter_a») (r .«counter_b») (s .«counter_a_zeroed») a' e)
+      (updateOne row counterB values (a' .at) (r .«counter_b») (r .«counter_a») (s .«counter_b_zeroed»)) refl k
+
+  both-spent : updateBoth row values r s ≡ Both a b → BothSpent s a b
+  unfolding updateBoth
+  both-spent e =
+      spent-a (updateOne row counterA values (s .«value_at») (r .«counter_a») (r .«counter_b») (s .«counter_a_zeroed»)) refl e
 
 -- ---- update_counter of a row without counters
 and-left : (a b : Bool) → (a && b) ≡ true → a ≡ true
@@ -88,7 +110,7 @@ and-right : (a b : Bool) → (a && b) ≡ true → b ≡ true
 and-right true b e = e
 and-right false b e = let z : _≡_ {A = Bool} false true = e in cc
 
-or-false : (a : Bool) → (a || false) ≡ a
+pub or-false : (a : Bool) → (a || false) ≡ a
 or-false true = refl
 or-false false = refl
 
@@ -101,6 +123,17 @@ uncounted z E row r s p e =
     let none-b = and-right (eqb (getD row counterA 0) 0) (eqb (getD row counterB 0) 0) e in
     rw (none-a, none-b, or-false (s .«counter_a_zeroed»), or-false (s .«counter_b_zeroed»))
 
+pub uncounted-both : (row : List ℕ) (values : List Float) (r : MachineRuntime) (s : Shared) →
+    (eqb (getD row counterA 0) 0 && eqb (getD row counterB 0) 0) ≡ true → {a b : Counter} →
+    NewValue a ≡ counterOf false (r .«counter_a») (s .«counter_a_zeroed») (s .«value_at») →
+    NewValue b ≡ counterOf false (r .«counter_b») (s .«counter_b_zeroed») (s .«value_at») →
+    Both a b ≡ updateBoth row values r s
+unfolding updateBoth updateOne
+uncounted-both row values r s e on-a on-b =
+    let none-a = and-left (eqb (getD row counterA 0) 0) (eqb (getD row counterB 0) 0) e in
+    let none-b = and-right (eqb (getD row counterA 0) 0) (eqb (getD row counterB 0) 0) e in
+    rw (none-a, none-b) (both-are on-a on-b)
+
 -- ---- update_counter where one reports
 -- with any counter left, the CounterZero transition is a transition
 zero-is : (n : ℕ) (E : Env) (r : MachineRuntime) (s : Shared) (p : TriggerAction) →
@@ -109,16 +142,23 @@ unfolding zeroTransition
 zero-is zero E r s p h = absurd (lt-irrefl 0 h)
 zero-is (suc n) E r s p h = let e : suc n - 1 ≡ n = omega arith in rw e
 
-module _ (E : Env) (row : List ℕ) (r : MachineRuntime) (s : Shared) (a b : Counter)
-    (at-a : updateOne row counterA (E .values) (s .«value_at») (r .«counter_a») (r .«counter_b») (s .«counter_a_zeroed») ≡ NewValue a)
-    (at-b : updateOne row counterB (E .values) (a .at) (r .«counter_b») (r .«counter_a») (s .«counter_b_zeroed») ≡ NewValue b)
-    (reports : (a .reports || b .reports) ≡ true) (n : ℕ) (enough : left s ≤ n) where
-  fall : left (withZeroed s a b) < left s
-  fall = fewer _ _ _ _ _ _ _ _ _ _ _ _ a b at-a at-b reports
+-- where a counter reports, fewer may still report
+module _ (row : List ℕ) (values : List Float) (r : MachineRuntime) (s : Shared) (a b : Counter)
+    (both : updateBoth row values r s ≡ Both a b) (reports : (a .reports || b .reports) ≡ true) where
+  pub fewer : left (withZeroed s a b) < left s
+  fewer =
+      let known = both-spent row values r s a b both in
+      sum-falls (a .reports) (b .reports) _ _ _ _ (known .0) (known .1) reports
 
-  -- it is the CounterZero transition
-  pub on-report : (p : TriggerAction) →
-      updateCounterAt n E row r s p
-      ≡ afterZero (transitionAt (n - 1) E counterZero (withCounters r (a .value) (b .value)) (withZeroed s a b) p)
-  unfolding updateCounter
-  on-report p = rw (at-a, at-b, reports, zero-is n _ _ _ _ (omega (arith, fall)))
+  pub one-less : (n : ℕ) → left s ≤ n → left (withZeroed s a b) ≤ n - 1
+  one-less n h = omega (arith, fewer)
+
+-- and it is the CounterZero transition
+pub on-report : (E : Env) (row : List ℕ) (r : MachineRuntime) (s : Shared) (a b : Counter) →
+    updateBoth row (E .values) r s ≡ Both a b → (a .reports || b .reports) ≡ true →
+    (n : ℕ) → left s ≤ n → (p : TriggerAction) →
+    updateCounterAt n E row r s p
+    ≡ afterZero (transitionAt (n - 1) E counterZero (withCounters r (a .value) (b .value)) (withZeroed s a b) p)
+on-report E row r s a b both reports n enough p =
+    let some = fewer row (E .values) r s a b both reports in
+    rw (update-counter-is (zeroTransition n E) E row r s p, both, reports, zero-is n E _ _ _ (omega (arith, some)))

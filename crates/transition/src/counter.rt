@@ -9,13 +9,17 @@ use machine::dist::WholeDrawn;
 use machine::state::word;
 use steps::Counted;
 use steps::Counter;
+use steps::MachineRuntime;
+use steps::Shared;
 ghost use mathlib.Core.Path.{_≡_};
-ghost use mathlib.Core.Bool.{_&&_};
+ghost use mathlib.Core.Bool.{false, _&&_};
 ghost use lib.ListN.{getD};
 ghost use lib.Dec.{eqb};
 ghost use Rattle.machine.specs.Constants.{counterA, counterB};
 ghost use Prim.Native.Nat.{_≤_};
 ghost use Rattle.steps.specs.Transition as Spec;
+ghost use Rattle.steps.specs.declared.Counted.the-variants.{NewValue};
+ghost use Rattle.transition.specs.Both.{updateBoth};
 
 // Increment, Decrement, or Set.
 pub fn applied(operation: u64, old: u64, change: u64) -> u64
@@ -105,4 +109,68 @@ pub fn no_counters(row: &[u64]) -> bool
         return word(row, COUNTER_B) == 0;
     }
     false
+}
+
+// Both counters of a row after their update, or the refusal.
+pub enum CountedBoth {
+    Neither(u64),
+    Both(Counter, Counter),
+}
+
+// A counter that does not change.
+fn unchanged(value: u64, zeroed: bool, at: usize) -> Counter
+    ensures { λ x. ⌜ NewValue x ≡ Spec.counterOf false value zeroed at ⌝ }
+{
+    Counter {
+        value: value,
+        zeroed: zeroed,
+        reports: false,
+        at: at,
+    }
+}
+
+// B after A, both by values from before.
+pub fn update_both(row: &[u64], values: &[f64], r: MachineRuntime, s: Shared) -> CountedBoth
+    ensures { λ x. ⌜ x ≡ updateBoth (now (row .entry)) (now (values .entry)) r s ⌝ }
+{
+    let x = update_one(
+        row,
+        COUNTER_A,
+        values,
+        s.value_at,
+        r.counter_a,
+        r.counter_b,
+        s.counter_a_zeroed,
+    );
+    let a = match x {
+        Counted::Uncounted(n) => return CountedBoth::Neither(n),
+        Counted::NewValue(a) => a,
+    };
+    // B copies A's value from before this update
+    let old_value_a = r.counter_a;
+    let y = update_one(
+        row,
+        COUNTER_B,
+        values,
+        a.at,
+        r.counter_b,
+        old_value_a,
+        s.counter_b_zeroed,
+    );
+    match y {
+        Counted::Uncounted(n) => CountedBoth::Neither(n),
+        Counted::NewValue(b) => CountedBoth::Both(a, b),
+    }
+}
+
+// The same, where most rows have no counter.
+pub fn update_any(row: &[u64], values: &[f64], r: MachineRuntime, s: Shared) -> CountedBoth
+    ensures { λ x. ⌜ x ≡ updateBoth (now (row .entry)) (now (values .entry)) r s ⌝ }
+{
+    if no_counters(row) {
+        let a = unchanged(r.counter_a, s.counter_a_zeroed, s.value_at);
+        let b = unchanged(r.counter_b, s.counter_b_zeroed, s.value_at);
+        return CountedBoth::Both(a, b);
+    }
+    update_both(row, values, r, s)
 }

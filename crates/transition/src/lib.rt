@@ -2,9 +2,9 @@
 // it schedules, and the fall of its state limit. One machine goes in and comes back.
 use choice::Choice;
 use choice::choose;
+use counter::CountedBoth;
+use counter::update_both;
 use machine::action::has_limit;
-use machine::constants::COUNTER_A;
-use machine::constants::COUNTER_B;
 use machine::constants::STATE_END;
 use machine::constants::STATE_SIGNAL;
 use machine::event::BLOCKING_END;
@@ -15,6 +15,7 @@ use machine::event::PADDING_SENT;
 use machine::state::Next;
 use machine::state::state_row;
 use step::after_zero;
+use step::counted;
 use step::done;
 use step::either;
 use step::ended;
@@ -22,7 +23,6 @@ use step::enter;
 use step::finished;
 use step::raise;
 use steps::Context;
-use steps::Counted;
 use steps::Entered;
 use steps::MachineRuntime;
 use steps::Shared;
@@ -32,20 +32,21 @@ use steps::TriggerAction;
 use steps::Update;
 use steps::Updated;
 ghost use mathlib.Core.Path.{_≡_};
-ghost use mathlib.Core.Bool.{true, _&&_};
+ghost use mathlib.Core.Bool.{not, _&&_};
 ghost use lib.Dec.{eqb};
 ghost use Prim.Native.Nat.{ℕ, _≤_, _<_};
 ghost use Rattle.machine.specs.Action.{hasLimit};
 ghost use Rattle.steps.specs.Transition as Spec;
 ghost use Rattle.steps.specs.Transition.{env, left};
 ghost use Rattle.steps.specs.Events as Events;
-ghost use Rattle.steps.specs.declared.Stepped.the-variants.{Done};
+ghost use Rattle.machine.specs.Constants.{stateEnd};
 ghost use Rattle.transition.specs.Transition.{goToAt, goingAt};
 
 pub mod choice; // the choice of a next state
 pub mod limits; // below_action_limits and what it asks
 pub mod action; // schedule_action
 pub mod counter; // one counter of update_counter
+pub mod settle; // the short way
 pub mod step; // what a transition makes of its machine before and after update_counter
 
 // ---- the cycle: a transition updates counters, and a counter that reaches zero starts a
@@ -75,51 +76,29 @@ pub fn update_counter(
             state_changed: false,
         });
     }
-    let x = counter::update_one(
-        row,
-        COUNTER_A,
-        values,
-        s.value_at,
-        r.counter_a,
-        r.counter_b,
-        s.counter_a_zeroed,
-    );
-    let a = match x {
-        Counted::Uncounted(n) => return Updated::Halted(n),
-        Counted::NewValue(a) => a,
-    };
-    // B copies A's value from before this update
-    let old_value_a = r.counter_a;
-    let y = counter::update_one(
-        row,
-        COUNTER_B,
-        values,
-        a.at,
-        r.counter_b,
-        old_value_a,
-        s.counter_b_zeroed,
-    );
-    let b = match y {
-        Counted::Uncounted(n) => return Updated::Halted(n),
-        Counted::NewValue(b) => b,
-    };
-    let mut q = r;
-    q.counter_a = a.value;
-    q.counter_b = b.value;
-    let mut t = s;
-    t.counter_a_zeroed = a.zeroed;
-    t.counter_b_zeroed = b.zeroed;
-    t.value_at = b.at;
-    if either(a.reports, b.reports) {
-        return after_zero(transition(rows, transitions, chances, values, c, COUNTER_ZERO, q, t, p));
+    let x = update_both(row, values, r, s);
+    match x {
+        CountedBoth::Neither(n) => Updated::Halted(n),
+        CountedBoth::Both(a, b) => {
+            let u = counted(r, s, p, a, b);
+            if either(a.reports, b.reports) {
+                let q = u.runtime;
+                let t = u.shared;
+                return after_zero(transition(
+                    rows,
+                    transitions,
+                    chances,
+                    values,
+                    c,
+                    COUNTER_ZERO,
+                    q,
+                    t,
+                    p,
+                ));
+            }
+            Updated::Counters(u)
+        }
     }
-    Updated::Counters(Update {
-        runtime: q,
-        shared: t,
-        action: p,
-        allow_schedule: true,
-        state_changed: false,
-    })
 }
 
 // Goes to a state of the machine.
@@ -263,25 +242,42 @@ pub fn decrement_limit(
     Stepped::Done(e)
 }
 
-// The state limit falls where the transition neither changed the state nor ended the machine.
+// Whether a machine neither changed state nor ended.
+fn stays(changed: bool, state: u64) -> bool
+    ensures { λ x. ⌜ x ≡ (not changed && not (eqb state stateEnd)) ⌝ }
+{
+    if changed {
+        return false;
+    }
+    state != STATE_END
+}
+
+// After a transition: where the event is one at which the state limit falls, it falls unless the
+// machine changed state or ended.
 pub fn after_own(
     rows: &[u64],
     transitions: &[u64],
     chances: &[f32],
     values: &[f64],
     c: Context,
-    d: Step,
+    falls: bool,
+    x: Stepped,
 ) -> Stepped
     requires { ⌜ c .machine < 16 ⌝ }
-    ensures { λ x. ⌜ x ≡ Events.afterTransition (env (now (rows .entry)) (now (transitions .entry)) (now (chances .entry)) (now (values .entry)) c) true (Done d) ⌝ }
+    ensures { λ y. ⌜ y ≡ Events.afterTransition (env (now (rows .entry)) (now (transitions .entry)) (now (chances .entry)) (now (values .entry)) c) falls x ⌝ }
 {
-    if d.changed {
-        return Stepped::Done(d);
+    if falls {
+        match x {
+            Stepped::Refused(n) => return Stepped::Refused(n),
+            Stepped::Done(d) => {
+                if stays(d.changed, d.runtime.current_state) {
+                    return decrement_limit(rows, transitions, chances, values, c, d);
+                }
+                return Stepped::Done(d);
+            }
+        }
     }
-    if d.runtime.current_state == STATE_END {
-        return Stepped::Done(d);
-    }
-    decrement_limit(rows, transitions, chances, values, c, d)
+    x
 }
 
 // A machine's own counts, just before its transition.

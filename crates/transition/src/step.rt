@@ -5,6 +5,7 @@ use machine::action::sample_limit;
 use machine::constants::STATE_END;
 use machine::dist::WholeDrawn;
 use steps::Context;
+use steps::Counter;
 use steps::Entered;
 use steps::MachineRuntime;
 use steps::Scheduled;
@@ -20,6 +21,7 @@ ghost use Prim.Native.Nat.{_<_};
 ghost use Rattle.machine.specs.Constants.{stateEnd};
 ghost use Rattle.steps.specs.Limits.{belowActionLimits};
 ghost use Rattle.steps.specs.Transition as Spec;
+ghost use Rattle.transition.specs.Both as Both;
 
 // ---- two tests
 
@@ -93,6 +95,26 @@ pub fn enter(row: &[u64], values: &[f64], r: MachineRuntime, state: u64, at: usi
 }
 
 // ---- after the counters
+
+// The machine with its counters' new values, and which of them have reported zero.
+pub fn counted(r: MachineRuntime, s: Shared, p: TriggerAction, a: Counter, b: Counter) -> Update
+    ensures { λ x. ⌜ x ≡ Both.counted r s p a b ⌝ }
+{
+    let mut q = r;
+    q.counter_a = a.value;
+    q.counter_b = b.value;
+    let mut t = s;
+    t.counter_a_zeroed = a.zeroed;
+    t.counter_b_zeroed = b.zeroed;
+    t.value_at = b.at;
+    Update {
+        runtime: q,
+        shared: t,
+        action: p,
+        allow_schedule: true,
+        state_changed: false,
+    }
+}
 
 // Out of a state and back is a change.
 pub fn has_changed(before: u64, u: Update) -> bool

@@ -6,7 +6,9 @@ use native.Mathlib.Omega.{arith}
 use mathlib.Core.Path.{sym, ap, _∙_}
 use borrow.Author.Needs.{needs}
 use borrow.Author.Tests.{eq-eqb, ne-eqb}
-use Rattle.steps.specs.Transition.{left, afterZero, updateCounter}
+use Rattle.steps.specs.Transition.{left, afterZero}
+use Rattle.steps.specs.declared.Updated.the-variants.{Counters}
+use Rattle.transition.specs.Both.{update-counter-is}
 use Rattle.transition.specs.Choice.{transition-is}
 use Rattle.transition.specs.Transition.{goingAt}
 use Rattle.transition.proofs.Counters.{fewer, one-less, uncounted, on-report}
@@ -28,8 +30,9 @@ use Rattle.transition.proofs.+go_to+going+transition+update_counter.Lts
 use Rattle.machine.proofs.state.state_row.Reads as state-row-reads
 use Rattle.transition.proofs.choice.choose.Reads as choose-reads
 use Rattle.transition.proofs.counter.no_counters.Reads as no-counters-reads
-use Rattle.transition.proofs.counter.update_one.Reads as update-one-reads
+use Rattle.transition.proofs.counter.update_both.Reads as update-both-reads
 use Rattle.transition.proofs.step.after_zero.Reads as after-zero-reads
+use Rattle.transition.proofs.step.counted.Reads as counted-reads
 use Rattle.transition.proofs.step.done.Reads as done-reads
 use Rattle.transition.proofs.step.either.Reads as either-reads
 use Rattle.transition.proofs.step.ended.Reads as ended-reads
@@ -236,8 +239,10 @@ abbrev uc : ℕ → update-counter-lts.Claims
 uc t = (
   no-counters-reads.Asked,
   no-counters-reads.Learnt,
-  update-one-reads.Asked,
-  update-one-reads.Learnt,
+  update-both-reads.Asked,
+  update-both-reads.Learnt,
+  counted-reads.Asked,
+  counted-reads.Learnt,
   either-reads.Asked,
   either-reads.Learnt,
   transition-below t,
@@ -253,53 +258,33 @@ update-counter-returns : (t : ℕ) → update-counter-lts.Need-returns (uc t) (u
 update-counter-returns t c =
     λ n h. sym (uncounted _ _ _ _ _ _ (sym (c .before .no-counters .ensures) ∙ c .if1 .taken))
 
-update-counter-update-one-requires : (t : ℕ) → update-counter-lts.Need-update-one-requires (uc t) (update-counter-at t) update-counter.Post
-update-counter-update-one-requires t c κs = search needs
+update-counter-update-both-requires : (t : ℕ) → update-counter-lts.Need-update-both-requires (uc t) (update-counter-at t) update-counter.Post
+update-counter-update-both-requires t c κs = search needs
 
 update-counter-enum-known-x : (t : ℕ) → update-counter-lts.Need-enum-known-x (uc t) (update-counter-at t) update-counter.Post
 update-counter-enum-known-x t c = search needs
 
-update-counter-returns-2 : (t : ℕ) → update-counter-lts.Need-returns-2 (uc t) (update-counter-at t) update-counter.Post
-unfolding updateCounter
-update-counter-returns-2 t c =
-    λ n h. rw (sym (c .before .before .before .update-one .ensures) ∙ c .before .x .given .1)
-
 update-counter-enum-known-x-2 : (t : ℕ) → update-counter-lts.Need-enum-known-x-2 (uc t) (update-counter-at t) update-counter.Post
 update-counter-enum-known-x-2 t c = search needs
 
-update-counter-update-one-requires-2 : (t : ℕ) → update-counter-lts.Need-update-one-requires-2 (uc t) (update-counter-at t) update-counter.Post
-update-counter-update-one-requires-2 t c κs = search needs
-
-update-counter-enum-known-y : (t : ℕ) → update-counter-lts.Need-enum-known-y (uc t) (update-counter-at t) update-counter.Post
-update-counter-enum-known-y t c = search needs
-
-update-counter-returns-3 : (t : ℕ) → update-counter-lts.Need-returns-3 (uc t) (update-counter-at t) update-counter.Post
-unfolding updateCounter
-update-counter-returns-3 t c =
-    let at-x2 = c .before .before .before .before .before in
-    λ n h. rw (
-      sym (at-x2 .before .before .update-one .ensures) ∙ at-x2 .x2 .given .1,
-      sym (c .before .before .before .update-one2 .ensures) ∙ c .before .y .given .1,
-    )
-
-update-counter-enum-known-y-2 : (t : ℕ) → update-counter-lts.Need-enum-known-y-2 (uc t) (update-counter-at t) update-counter.Post
-update-counter-enum-known-y-2 t c = search needs
+update-counter-counted-requires : (t : ℕ) → update-counter-lts.Need-counted-requires (uc t) (update-counter-at t) update-counter.Post
+update-counter-counted-requires t c κs = search needs
 
 update-counter-either-requires : (t : ℕ) → update-counter-lts.Need-either-requires (uc t) (update-counter-at t) update-counter.Post
 update-counter-either-requires t c κs = search needs
 
 update-counter-transition-requires : (t : ℕ) → update-counter-lts.Need-transition-requires (uc t) (update-counter-at t) update-counter.Post
 update-counter-transition-requires t c κs =
-    let at-update-one2 = c .before .before .before .before .before in
-    let at-update-one = at-update-one2 .before .before .before .before in
-    let at-pre = at-update-one .before .before .before .before .before .before .before .before in (
+    let at-either = c .before .before .before in
+    let at-counted = at-either .before in
+    let at-both = at-counted .before .before .before .before in
+    let at-pre = at-both .before .before .before .before .before .before .before .before in
+    rw (at-counted .counted .ensures) (
       omega (
         arith,
         at-pre .pre .0,
-        fewer _ _ _ _ _ _ _ _ _ _ _ _ _ _
-            (sym (at-update-one .update-one .ensures) ∙ at-update-one2 .before .before .x2 .given .1)
-            (sym (at-update-one2 .update-one2 .ensures) ∙ c .before .before .before .y2 .given .1)
-            (sym (c .before .either .ensures) ∙ c .if2 .taken),
+        fewer _ _ _ _ _ _ (sym (at-both .update-both .ensures) ∙ at-counted .before .before .x2 .given .1)
+            (sym (at-either .either .ensures) ∙ c .before .before .if2 .taken),
       ),
       search needs,
     )
@@ -307,32 +292,31 @@ update-counter-transition-requires t c κs =
 update-counter-after-zero-requires : (t : ℕ) → update-counter-lts.Need-after-zero-requires (uc t) (update-counter-at t) update-counter.Post
 update-counter-after-zero-requires t c κs = search needs
 
+update-counter-returns-2 : (t : ℕ) → update-counter-lts.Need-returns-2 (uc t) (update-counter-at t) update-counter.Post
+update-counter-returns-2 t c =
+    let at-either = c .before .before .before .before .before in
+    let at-counted = at-either .before in
+    let at-both = at-counted .before .before .before .before in
+    let both = sym (at-both .update-both .ensures) ∙ at-counted .before .before .x2 .given .1 in
+    let reports = sym (at-either .either .ensures) ∙ c .before .before .before .before .if2 .taken in
+    λ n h. c .after-zero .ensures
+    ∙ ap afterZero (rw (at-counted .counted .ensures) at (c .before .transition .ensures) (n - 1) (one-less _ _ _ _ _ _ both reports n h))
+    ∙ sym (on-report _ _ _ _ _ _ both reports n h _)
+
+update-counter-returns-3 : (t : ℕ) → update-counter-lts.Need-returns-3 (uc t) (update-counter-at t) update-counter.Post
+update-counter-returns-3 t c =
+    λ n h. rw (update-counter-is, sym (c .before .before .before .update-both .ensures) ∙ c .before .x .given .1)
+
 update-counter-returns-4 : (t : ℕ) → update-counter-lts.Need-returns-4 (uc t) (update-counter-at t) update-counter.Post
 update-counter-returns-4 t c =
-    let at-y2 = c .before .before .before .before .before in
-    let at-x2 = at-y2 .before .before .before .before in
-    λ n h. c .after-zero .ensures ∙ ap afterZero
-    (c .before .transition .ensures (n - 1)
-    (one-less _ _ _ _ _ _ _ _ _ _ _ _ _ _
-    (sym (at-x2 .before .before .update-one .ensures) ∙ at-x2 .x2 .given .1)
-    (sym (at-y2 .before .before .update-one2 .ensures) ∙ at-y2 .y2 .given .1)
-    (sym (c .before .before .before .either .ensures) ∙ c .before .before .if2 .taken) n h))
-    ∙ sym (on-report _ _ _ _ _ _ (sym (at-x2 .before .before .update-one .ensures)
-    ∙ at-x2 .x2 .given .1) (sym (at-y2 .before .before .update-one2 .ensures)
-    ∙ at-y2 .y2 .given .1) (sym (c .before .before .before .either .ensures)
-    ∙ c .before .before .if2 .taken) n h _)
-
-update-counter-returns-5 : (t : ℕ) → update-counter-lts.Need-returns-5 (uc t) (update-counter-at t) update-counter.Post
-unfolding updateCounter
-update-counter-returns-5 t c =
-    let at-update-one2 = c .before .before .before .before .before in
-    let at-update-one = at-update-one2 .before .before .before .before in
+    let at-counted = c .before .before in
+    let at-both = at-counted .before .before .before .before in
     λ n h. rw (
-      sym (at-update-one .update-one .ensures)
-          ∙ at-update-one2 .before .before .x2 .given .1,
-      sym (at-update-one2 .update-one2 .ensures) ∙ c .before .before .before .y2 .given .1,
+      update-counter-is,
+      sym (at-both .update-both .ensures) ∙ at-counted .before .before .x2 .given .1,
       sym (c .before .either .ensures) ∙ c .if2 .left,
     )
+    (ap Counters (at-counted .counted .ensures))
 
 pub +go-to+going+transition+update-counter-spec : {M : Type 1} → statement M
 +go-to+going+transition+update-counter-spec =
@@ -375,16 +359,13 @@ pub +go-to+going+transition+update-counter-spec : {M : Type 1} → statement M
     update-counter.Post
     (update-counter-no-counters-requires t)
     (update-counter-returns t)
-    (update-counter-update-one-requires t)
+    (update-counter-update-both-requires t)
     (update-counter-enum-known-x t)
-    (update-counter-returns-2 t)
     (update-counter-enum-known-x-2 t)
-    (update-counter-update-one-requires-2 t)
-    (update-counter-enum-known-y t)
-    (update-counter-returns-3 t)
-    (update-counter-enum-known-y-2 t)
+    (update-counter-counted-requires t)
     (update-counter-either-requires t)
     (update-counter-transition-requires t)
     (update-counter-after-zero-requires t)
+    (update-counter-returns-2 t)
+    (update-counter-returns-3 t)
     (update-counter-returns-4 t)
-    (update-counter-returns-5 t)

@@ -8,10 +8,11 @@ use native.Mathlib.Omega.{arith}
 use Rattle.steps.specs.Events.{each, eventTurn}
 use Rattle.steps.specs.Framework.{begin}
 use Rattle.steps.specs.declared.Ran.{Ran}
+use Rattle.transition.specs.Settle.{short-way}
 use Rattle.transition.specs.Transition.{at-most-two}
 use Rattle.framework.specs.Run.{tables, tapes, ranFrom}
 use Rattle.framework.proofs.Counts.{kind-fits, event-small}
-use Rattle.framework.proofs.Turns.{Ahead, all-ahead, ahead-missing, ahead-counts, ahead-refused, ahead-own-refused, ahead-own, ahead-done, ahead-ends, ahead-event}
+use Rattle.framework.proofs.Turns.{Ahead, all-ahead, ahead-missing, ahead-counts, ahead-refused, ahead-settled, ahead-done, ahead-ends, ahead-event}
 use Rattle.framework.proofs.events.run_events.Statement.{statement}
 use Rattle.framework.proofs.events.run_events.Tie as tie
 
@@ -33,13 +34,15 @@ shared-from-requires : tie.Need-shared-from-requires Inv-loop μ-loop
 shared-from-requires c κs = search needs
 
 loop-holds : tie.Need-loop-holds Inv-loop μ-loop
-loop-holds c = (
-  omega arith,
-  omega arith,
-  λ h. omega (arith, h),
-  refl,
-  rw (c .before .no-action .ensures, c .shared-from .ensures) (all-ahead _ _ _ _ _ _ _),
-)
+loop-holds c =
+    let shared-from = c .shared-from in
+    let no-action = c .before .no-action in (
+      omega arith,
+      omega arith,
+      λ h. omega (arith, h),
+      refl,
+      rw (no-action .ensures, shared-from .ensures) (all-ahead _ _ _ _ _ _ _),
+    )
 
 limit-falls-requires : tie.Need-limit-falls-requires Inv-loop μ-loop
 limit-falls-requires c κs = search needs
@@ -82,6 +85,7 @@ stopped-requires c κs = search needs
 
 returns : tie.Need-returns Inv-loop μ-loop
 returns c =
+    let stopped = c .stopped in
     let choice = c .before .before .choice in
     let choose = c .before .before .before .before .choose in
     let event-of = c .before .before .before .before .before .event-of in
@@ -89,8 +93,8 @@ returns c =
     let states-of = c₁ .states-of in
     let if1 = c₁ .before .before .if1 in
     let loop = c₁ .before .before .before .loop in (
-      c .stopped .ensures ∙ sym (ap (ranFrom _) (ahead-missing (loop .inv .4) (if1 .taken) (sym (rw (states-of .ensures, event-of .ensures) at (choose .ensures)) ∙ choice .given .1))),
-      ap (λ (r : Ran). r .framework .machines) (c .stopped .ensures),
+      stopped .ensures ∙ sym (ap (ranFrom _) (ahead-missing (loop .inv .4) (if1 .taken) (sym (rw (states-of .ensures, event-of .ensures) at (choose .ensures)) ∙ choice .given .1))),
+      ap (λ (r : Ran). r .framework .machines) (stopped .ensures),
     )
 
 enum-known-choice-2 : tie.Need-enum-known-choice-2 Inv-loop μ-loop
@@ -168,12 +172,102 @@ array-copy-out-p c =
     let loop = c₁ .before .before .before .before .before .loop in
     omega (arith, if1 .taken, loop .inv .2 (if1 .taken))
 
+settle-requires : tie.Need-settle-requires Inv-loop μ-loop
+settle-requires c κs = search needs
+
+enum-told : tie.Need-enum-told Inv-loop μ-loop
+enum-told c = search needs
+
+enum-known-short : tie.Need-enum-known-short Inv-loop μ-loop
+enum-known-short c = search needs
+
+mul-actions : tie.Need-mul-actions Inv-loop μ-loop
+mul-actions c =
+    let c₁ = c .before .before .before .before .before .before .before .before in
+    let c₂ = c₁ .before .before .before .before .before .before .before .before in
+    let if1 = c₂ .before .before .before .if1 in
+    let loop = c₂ .before .before .before .before .loop in
+    omega (arith, if1 .taken, loop .inv .2 (if1 .taken))
+
+array-set-from-actions : tie.Need-array-set-from-actions Inv-loop μ-loop
+array-set-from-actions c =
+    let c₁ = c .before .before .before .before .before .before .before .before in
+    let c₂ = c₁ .before .before .before .before .before .before .before .before in
+    let if1 = c₂ .before .before .before .if1 in
+    let loop = c₂ .before .before .before .before .loop in
+    omega (arith, if1 .taken, loop .inv .2 (if1 .taken))
+
+mul-r2 : tie.Need-mul-r2 Inv-loop μ-loop
+mul-r2 c =
+    let c₁ = c .before .before .before .before .before .before .before .before in
+    let c₂ = c₁ .before .before .before .before .before .before .before .before in
+    let if1 = c₂ .before .before .before .before .if1 in
+    let loop = c₂ .before .before .before .before .before .loop in
+    omega (arith, if1 .taken, loop .inv .2 (if1 .taken))
+
+element-set-from-r2 : tie.Need-element-set-from-r2 Inv-loop μ-loop
+element-set-from-r2 c =
+    let c₁ = c .before .before .before .before .before .before .before .before in
+    let c₂ = c₁ .before .before .before .before .before .before .before .before in
+    let if1 = c₂ .before .before .before .before .if1 in
+    let loop = c₂ .before .before .before .before .before .loop in
+    omega (arith, if1 .taken, loop .inv .2 (if1 .taken))
+
+add-m-2 : tie.Need-add-m-2 Inv-loop μ-loop
+add-m-2 c =
+    let c₁ = c .before .before .before .before .before .before .before .before in
+    let c₂ = c₁ .before .before .before .before .before .before .before .before in
+    let if1 = c₂ .before .before .before .before .if1 in
+    let loop = c₂ .before .before .before .before .before .loop in
+    omega (arith, if1 .taken, loop .inv .2 (if1 .taken))
+
+loop-less-2 : tie.Need-loop-less-2 Inv-loop μ-loop
+loop-less-2 c =
+    let c₁ = c .before .before .before .before .before .before .before .before in
+    let c₂ = c₁ .before .before .before .before .before .before .before .before in
+    let if1 = c₂ .before .before .before .before .if1 in
+    omega (arith, if1 .taken)
+
+loop-again-2 : tie.Need-loop-again-2 Inv-loop μ-loop
+loop-again-2 c =
+    let short = c .before .before .before .before .short in
+    let settle = c .before .before .before .before .before .before .settle in
+    let c₁ = c .before .before .before .before .before .before .before .before in
+    let context-from = c₁ .context-from in
+    let choice2 = c₁ .before .before .before .before .choice2 in
+    let choose = c₁ .before .before .before .before .before .before .choose in
+    let event-of = c₁ .before .before .before .before .before .before .before .event-of in
+    let c₂ = c₁ .before .before .before .before .before .before .before .before in
+    let counted-by = c₂ .counted-by in
+    let states-of = c₂ .before .before .states-of in
+    let limit-falls = c₂ .before .before .before .limit-falls in
+    let if1 = c₂ .before .before .before .before .if1 in
+    let loop = c₂ .before .before .before .before .before .loop in (
+      loop .inv .0,
+      loop .inv .1,
+      λ h. loop .inv .2 (if1 .taken),
+      loop .inv .3,
+      ahead-settled (loop .inv .4) (if1 .taken) (sym (rw (states-of .ensures, event-of .ensures) at (choose .ensures)) ∙ choice2 .given .1)
+          (short-way _ _ _ _ _ _ _ _ _
+          (sym (rw (states-of .ensures, context-from .ensures, counted-by .ensures, limit-falls .ensures) at (settle .ensures)) ∙ short .given .1)),
+    )
+
 going-requires : tie.Need-going-requires Inv-loop μ-loop
 going-requires c κs =
-    let context-from = c .before .context-from in
+    let context-from = c .before .before .before .before .context-from in
     let c₁ = c .before .before .before .before .before .before .before .before in
-    let if1 = c₁ .before .before .before .before .before .if1 in
-    let loop = c₁ .before .before .before .before .before .before .loop in
+    let c₂ = c₁ .before .before .before .before .before .before .before .before in
+    let if1 = c₂ .if1 in
+    let loop = c₂ .before .loop in
+    rw (context-from .ensures) (omega (arith, if1 .taken, loop .inv .2 (if1 .taken)))
+
+after-own-requires : tie.Need-after-own-requires Inv-loop μ-loop
+after-own-requires c κs =
+    let context-from = c .before .before .before .before .before .context-from in
+    let c₁ = c .before .before .before .before .before .before .before .before in
+    let c₂ = c₁ .before .before .before .before .before .before .before .before in
+    let if1 = c₂ .before .if1 in
+    let loop = c₂ .before .before .loop in
     rw (context-from .ensures) (omega (arith, if1 .taken, loop .inv .2 (if1 .taken)))
 
 enum-known-x : tie.Need-enum-known-x Inv-loop μ-loop
@@ -184,227 +278,111 @@ stopped-requires-2 c κs = search needs
 
 returns-2 : tie.Need-returns-2 Inv-loop μ-loop
 returns-2 c =
+    let stopped2 = c .stopped2 in
     let x = c .before .before .x in
-    let going = c .before .before .before .before .going in
-    let context-from = c .before .before .before .before .before .before .context-from in
+    let after-own = c .before .before .before .before .after-own in
+    let going = c .before .before .before .before .before .going in
     let c₁ = c .before .before .before .before .before .before .before .before in
-    let choice2 = c₁ .before .before .choice2 in
-    let choose = c₁ .before .before .before .before .choose in
-    let event-of = c₁ .before .before .before .before .before .event-of in
-    let counted-by = c₁ .before .before .before .before .before .before .counted-by in
+    let context-from = c₁ .before .before .context-from in
+    let choice2 = c₁ .before .before .before .before .before .before .choice2 in
     let c₂ = c₁ .before .before .before .before .before .before .before .before in
-    let states-of = c₂ .states-of in
-    let if1 = c₂ .before .before .if1 in
-    let loop = c₂ .before .before .before .loop in (
-      c .stopped2 .ensures ∙ sym (ap (ranFrom _) (ahead-refused (loop .inv .4) (if1 .taken) (sym (rw (states-of .ensures, event-of .ensures) at (choose .ensures)) ∙ choice2 .given .1)
-          (sym (rw (states-of .ensures, context-from .ensures, counted-by .ensures) at (going .ensures 2 (at-most-two (loop .s)))) ∙ x .given .1))),
-      ap (λ (r : Ran). r .framework .machines) (c .stopped2 .ensures),
+    let choose = c₂ .choose in
+    let event-of = c₂ .before .event-of in
+    let counted-by = c₂ .before .before .counted-by in
+    let states-of = c₂ .before .before .before .before .states-of in
+    let limit-falls = c₂ .before .before .before .before .before .limit-falls in
+    let if1 = c₂ .before .before .before .before .before .before .if1 in
+    let loop = c₂ .before .before .before .before .before .before .before .loop in (
+      stopped2 .ensures ∙ sym (ap (ranFrom _) (ahead-refused (loop .inv .4) (if1 .taken) (sym (rw (states-of .ensures, event-of .ensures) at (choose .ensures)) ∙ choice2 .given .1)
+          (sym (rw (limit-falls .ensures, going .ensures 2 (at-most-two (loop .s)), states-of .ensures, context-from .ensures, counted-by .ensures) at (after-own .ensures)) ∙ x .given .1))),
+      ap (λ (r : Ran). r .framework .machines) (stopped2 .ensures),
     )
 
 enum-known-x-2 : tie.Need-enum-known-x-2 Inv-loop μ-loop
 enum-known-x-2 c = search needs
 
-after-own-requires : tie.Need-after-own-requires Inv-loop μ-loop
-after-own-requires c κs =
-    let context-from = c .before .before .before .before .before .before .context-from in
-    let c₁ = c .before .before .before .before .before .before .before .before in
-    let c₂ = c₁ .before .before .before .before .before .before .before .before in
-    let if1 = c₂ .before .before .if1 in
-    let loop = c₂ .before .before .before .loop in
-    rw (context-from .ensures) (omega (arith, if1 .taken, loop .inv .2 (if1 .taken)))
-
-enum-known-y : tie.Need-enum-known-y Inv-loop μ-loop
-enum-known-y c = search needs
-
-stopped-requires-3 : tie.Need-stopped-requires-3 Inv-loop μ-loop
-stopped-requires-3 c κs = search needs
-
-returns-3 : tie.Need-returns-3 Inv-loop μ-loop
-returns-3 c =
-    let y = c .before .before .y in
-    let after-own = c .before .before .before .before .after-own in
-    let if3 = c .before .before .before .before .before .if3 in
-    let x2 = c .before .before .before .before .before .before .before .x2 in
-    let c₁ = c .before .before .before .before .before .before .before .before in
-    let going = c₁ .before .going in
-    let context-from = c₁ .before .before .before .context-from in
-    let choice2 = c₁ .before .before .before .before .before .before .before .choice2 in
-    let c₂ = c₁ .before .before .before .before .before .before .before .before in
-    let choose = c₂ .before .choose in
-    let event-of = c₂ .before .before .event-of in
-    let counted-by = c₂ .before .before .before .counted-by in
-    let states-of = c₂ .before .before .before .before .before .states-of in
-    let limit-falls = c₂ .before .before .before .before .before .before .limit-falls in
-    let if1 = c₂ .before .before .before .before .before .before .before .if1 in
-    let c₃ = c₂ .before .before .before .before .before .before .before .before in
-    let loop = c₃ .loop in (
-      c .stopped3 .ensures ∙ sym (ap (ranFrom _) (ahead-own-refused (loop .inv .4) (if1 .taken) (sym (rw (states-of .ensures, event-of .ensures) at (choose .ensures)) ∙ choice2 .given .1)
-          (sym (rw (states-of .ensures, context-from .ensures, counted-by .ensures) at (going .ensures 2 (at-most-two (loop .s)))) ∙ x2 .given .1) (sym (limit-falls .ensures) ∙ if3 .taken)
-          (sym (rw (states-of .ensures, context-from .ensures) at (after-own .ensures)) ∙ y .given .1))),
-      ap (λ (r : Ran). r .framework .machines) (c .stopped3 .ensures),
-    )
-
-enum-known-y-2 : tie.Need-enum-known-y-2 Inv-loop μ-loop
-enum-known-y-2 c = search needs
-
-mul-r2 : tie.Need-mul-r2 Inv-loop μ-loop
-mul-r2 c =
-    let c₁ = c .before .before .before .before .before .before .before .before in
-    let c₂ = c₁ .before .before .before .before .before .before .before .before in
-    let if1 = c₂ .before .before .before .before .before .before .before .if1 in
-    let c₃ = c₂ .before .before .before .before .before .before .before .before in
-    let loop = c₃ .loop in
-    omega (arith, if1 .taken, loop .inv .2 (if1 .taken))
-
-element-set-from-r2 : tie.Need-element-set-from-r2 Inv-loop μ-loop
-element-set-from-r2 c =
-    let c₁ = c .before .before .before .before .before .before .before .before in
-    let c₂ = c₁ .before .before .before .before .before .before .before .before in
-    let if1 = c₂ .before .before .before .before .before .before .before .if1 in
-    let c₃ = c₂ .before .before .before .before .before .before .before .before in
-    let loop = c₃ .loop in
-    omega (arith, if1 .taken, loop .inv .2 (if1 .taken))
-
-mul-actions : tie.Need-mul-actions Inv-loop μ-loop
-mul-actions c =
-    let c₁ = c .before .before .before .before .before .before .before .before in
-    let c₂ = c₁ .before .before .before .before .before .before .before .before in
-    let c₃ = c₂ .before .before .before .before .before .before .before .before in
-    let if1 = c₃ .if1 in
-    let loop = c₃ .before .loop in
-    omega (arith, if1 .taken, loop .inv .2 (if1 .taken))
-
-array-set-from-actions : tie.Need-array-set-from-actions Inv-loop μ-loop
-array-set-from-actions c =
-    let c₁ = c .before .before .before .before .before .before .before .before in
-    let c₂ = c₁ .before .before .before .before .before .before .before .before in
-    let c₃ = c₂ .before .before .before .before .before .before .before .before in
-    let if1 = c₃ .if1 in
-    let loop = c₃ .before .loop in
-    omega (arith, if1 .taken, loop .inv .2 (if1 .taken))
-
-add-m-2 : tie.Need-add-m-2 Inv-loop μ-loop
-add-m-2 c =
-    let c₁ = c .before .before .before .before .before .before .before .before in
-    let c₂ = c₁ .before .before .before .before .before .before .before .before in
-    let c₃ = c₂ .before .before .before .before .before .before .before .before in
-    let if1 = c₃ .before .if1 in
-    let loop = c₃ .before .before .loop in
-    omega (arith, if1 .taken, loop .inv .2 (if1 .taken))
-
-loop-less-2 : tie.Need-loop-less-2 Inv-loop μ-loop
-loop-less-2 c =
-    let c₁ = c .before .before .before .before .before .before .before .before in
-    let c₂ = c₁ .before .before .before .before .before .before .before .before in
-    let c₃ = c₂ .before .before .before .before .before .before .before .before in
-    let if1 = c₃ .before .if1 in
-    omega (arith, if1 .taken)
-
-loop-again-2 : tie.Need-loop-again-2 Inv-loop μ-loop
-loop-again-2 c =
-    let y2 = c .before .before .before .before .y2 in
-    let after-own = c .before .before .before .before .before .before .after-own in
-    let if3 = c .before .before .before .before .before .before .before .if3 in
-    let c₁ = c .before .before .before .before .before .before .before .before in
-    let x2 = c₁ .before .x2 in
-    let going = c₁ .before .before .before .going in
-    let context-from = c₁ .before .before .before .before .before .context-from in
-    let c₂ = c₁ .before .before .before .before .before .before .before .before in
-    let choice2 = c₂ .before .choice2 in
-    let choose = c₂ .before .before .before .choose in
-    let event-of = c₂ .before .before .before .before .event-of in
-    let counted-by = c₂ .before .before .before .before .before .counted-by in
-    let states-of = c₂ .before .before .before .before .before .before .before .states-of in
-    let c₃ = c₂ .before .before .before .before .before .before .before .before in
-    let limit-falls = c₃ .limit-falls in
-    let if1 = c₃ .before .if1 in
-    let loop = c₃ .before .before .loop in (
-      loop .inv .0,
-      loop .inv .1,
-      λ h. loop .inv .2 (if1 .taken),
-      loop .inv .3,
-      ahead-own (loop .inv .4) (if1 .taken) (sym (rw (states-of .ensures, event-of .ensures) at (choose .ensures)) ∙ choice2 .given .1)
-          (sym (rw (states-of .ensures, context-from .ensures, counted-by .ensures) at (going .ensures 2 (at-most-two (loop .s)))) ∙ x2 .given .1) (sym (limit-falls .ensures) ∙ if3 .taken)
-          (sym (rw (states-of .ensures, context-from .ensures) at (after-own .ensures)) ∙ y2 .given .1),
-    )
-
 mul-r2-2 : tie.Need-mul-r2-2 Inv-loop μ-loop
 mul-r2-2 c =
     let c₁ = c .before .before .before .before .before .before .before .before in
     let c₂ = c₁ .before .before .before .before .before .before .before .before in
-    let if1 = c₂ .before .before .before .if1 in
-    let loop = c₂ .before .before .before .before .loop in
+    let if1 = c₂ .before .before .before .before .before .before .if1 in
+    let loop = c₂ .before .before .before .before .before .before .before .loop in
     omega (arith, if1 .taken, loop .inv .2 (if1 .taken))
 
 element-set-from-r2-2 : tie.Need-element-set-from-r2-2 Inv-loop μ-loop
 element-set-from-r2-2 c =
     let c₁ = c .before .before .before .before .before .before .before .before in
     let c₂ = c₁ .before .before .before .before .before .before .before .before in
-    let if1 = c₂ .before .before .before .if1 in
-    let loop = c₂ .before .before .before .before .loop in
+    let if1 = c₂ .before .before .before .before .before .before .if1 in
+    let loop = c₂ .before .before .before .before .before .before .before .loop in
     omega (arith, if1 .taken, loop .inv .2 (if1 .taken))
 
 mul-actions-2 : tie.Need-mul-actions-2 Inv-loop μ-loop
 mul-actions-2 c =
     let c₁ = c .before .before .before .before .before .before .before .before in
     let c₂ = c₁ .before .before .before .before .before .before .before .before in
-    let if1 = c₂ .before .before .before .before .if1 in
-    let loop = c₂ .before .before .before .before .before .loop in
+    let if1 = c₂ .before .before .before .before .before .before .before .if1 in
+    let c₃ = c₂ .before .before .before .before .before .before .before .before in
+    let loop = c₃ .loop in
     omega (arith, if1 .taken, loop .inv .2 (if1 .taken))
 
 array-set-from-actions-2 : tie.Need-array-set-from-actions-2 Inv-loop μ-loop
 array-set-from-actions-2 c =
     let c₁ = c .before .before .before .before .before .before .before .before in
     let c₂ = c₁ .before .before .before .before .before .before .before .before in
-    let if1 = c₂ .before .before .before .before .if1 in
-    let loop = c₂ .before .before .before .before .before .loop in
+    let if1 = c₂ .before .before .before .before .before .before .before .if1 in
+    let c₃ = c₂ .before .before .before .before .before .before .before .before in
+    let loop = c₃ .loop in
     omega (arith, if1 .taken, loop .inv .2 (if1 .taken))
 
 add-m-3 : tie.Need-add-m-3 Inv-loop μ-loop
 add-m-3 c =
     let c₁ = c .before .before .before .before .before .before .before .before in
     let c₂ = c₁ .before .before .before .before .before .before .before .before in
-    let if1 = c₂ .before .before .before .before .before .if1 in
-    let loop = c₂ .before .before .before .before .before .before .loop in
+    let c₃ = c₂ .before .before .before .before .before .before .before .before in
+    let if1 = c₃ .if1 in
+    let loop = c₃ .before .loop in
     omega (arith, if1 .taken, loop .inv .2 (if1 .taken))
 
 loop-less-3 : tie.Need-loop-less-3 Inv-loop μ-loop
 loop-less-3 c =
     let c₁ = c .before .before .before .before .before .before .before .before in
     let c₂ = c₁ .before .before .before .before .before .before .before .before in
-    let if1 = c₂ .before .before .before .before .before .if1 in
+    let c₃ = c₂ .before .before .before .before .before .before .before .before in
+    let if1 = c₃ .if1 in
     omega (arith, if1 .taken)
 
 loop-again-3 : tie.Need-loop-again-3 Inv-loop μ-loop
 loop-again-3 c =
-    let if3 = c .before .before .before .if3 in
-    let x2 = c .before .before .before .before .before .x2 in
+    let x2 = c .before .before .before .before .x2 in
+    let after-own = c .before .before .before .before .before .before .after-own in
     let going = c .before .before .before .before .before .before .before .going in
     let c₁ = c .before .before .before .before .before .before .before .before in
-    let context-from = c₁ .before .context-from in
-    let choice2 = c₁ .before .before .before .before .before .choice2 in
-    let choose = c₁ .before .before .before .before .before .before .before .choose in
+    let context-from = c₁ .before .before .before .before .context-from in
     let c₂ = c₁ .before .before .before .before .before .before .before .before in
-    let event-of = c₂ .event-of in
-    let counted-by = c₂ .before .counted-by in
-    let states-of = c₂ .before .before .before .states-of in
-    let limit-falls = c₂ .before .before .before .before .limit-falls in
-    let if1 = c₂ .before .before .before .before .before .if1 in
-    let loop = c₂ .before .before .before .before .before .before .loop in (
+    let choice2 = c₂ .choice2 in
+    let choose = c₂ .before .before .choose in
+    let event-of = c₂ .before .before .before .event-of in
+    let counted-by = c₂ .before .before .before .before .counted-by in
+    let states-of = c₂ .before .before .before .before .before .before .states-of in
+    let limit-falls = c₂ .before .before .before .before .before .before .before .limit-falls in
+    let c₃ = c₂ .before .before .before .before .before .before .before .before in
+    let if1 = c₃ .if1 in
+    let loop = c₃ .before .loop in (
       loop .inv .0,
       loop .inv .1,
       λ h. loop .inv .2 (if1 .taken),
       loop .inv .3,
       ahead-done (loop .inv .4) (if1 .taken) (sym (rw (states-of .ensures, event-of .ensures) at (choose .ensures)) ∙ choice2 .given .1)
-          (sym (rw (states-of .ensures, context-from .ensures, counted-by .ensures) at (going .ensures 2 (at-most-two (loop .s)))) ∙ x2 .given .1) (sym (limit-falls .ensures) ∙ if3 .left),
+          (sym (rw (limit-falls .ensures, going .ensures 2 (at-most-two (loop .s)), states-of .ensures, context-from .ensures, counted-by .ensures) at (after-own .ensures)) ∙ x2 .given .1),
     )
 
-returns-4 : tie.Need-returns-4 Inv-loop μ-loop
-returns-4 c =
-    let if4 = c .if4 in
+returns-3 : tie.Need-returns-3 Inv-loop μ-loop
+returns-3 c =
+    let if3 = c .if3 in
     let if1 = c .before .if1 in
     let loop = c .before .before .loop in
-    (rw (ahead-ends (loop .inv .4) (if1 .left) (if4 .taken)), loop .inv .3)
+    (rw (ahead-ends (loop .inv .4) (if1 .left) (if3 .taken)), loop .inv .3)
 
 mul-kind : tie.Need-mul-kind Inv-loop μ-loop
 mul-kind c = search needs
@@ -437,63 +415,48 @@ smaller-requires : tie.Need-smaller-requires Inv-loop μ-loop
 smaller-requires c κs = search needs
 
 end-for-requires : tie.Need-end-for-requires Inv-loop μ-loop
-end-for-requires c κs = rw (c .smaller .ensures) (omega arith)
+end-for-requires c κs =
+    let smaller = c .smaller in
+    rw (smaller .ensures) (omega arith)
 
-normal-after-requires : tie.Need-normal-after-requires Inv-loop μ-loop
-normal-after-requires c κs = search needs
-
-padding-after-requires : tie.Need-padding-after-requires Inv-loop μ-loop
-padding-after-requires c κs = search needs
-
-duration-after-requires : tie.Need-duration-after-requires Inv-loop μ-loop
-duration-after-requires c κs = search needs
-
-started-after-requires : tie.Need-started-after-requires Inv-loop μ-loop
-started-after-requires c κs = search needs
-
-active-after-requires : tie.Need-active-after-requires Inv-loop μ-loop
-active-after-requires c κs = search needs
+totals-after-requires : tie.Need-totals-after-requires Inv-loop μ-loop
+totals-after-requires c κs = search needs
 
 add-i : tie.Need-add-i Inv-loop μ-loop
 add-i c =
+    let if3 = c .before .before .before .before .before .before .before .if3 in
     let c₁ = c .before .before .before .before .before .before .before .before in
-    let if4 = c₁ .before .before .before .if4 in
     let c₂ = c₁ .before .before .before .before .before .before .before .before in
-    let good = c₂ .before .before .before .before .before .before .good in
-    omega (arith, if4 .left, good .1 .1 .1 .1 .1 .0 .0)
+    let good = c₂ .before .before .good in
+    omega (arith, if3 .left, good .1 .1 .1 .1 .1 .0 .0)
 
 loop-less-4 : tie.Need-loop-less-4 Inv-loop μ-loop
 loop-less-4 c =
-    let end-for = c .before .before .before .before .before .end-for in
-    let first-for = c .before .before .before .before .before .before .before .first-for in
-    let c₁ = c .before .before .before .before .before .before .before .before in
-    let if4 = c₁ .before .before .before .if4 in
-    omega (arith, if4 .left, end-for .ensures .1 .0, first-for .ensures)
+    let end-for = c .before .end-for in
+    let first-for = c .before .before .before .first-for in
+    let if3 = c .before .before .before .before .before .before .before .if3 in
+    omega (arith, if3 .left, end-for .ensures .1 .0, first-for .ensures)
 
 loop-again-4 : tie.Need-loop-again-4 Inv-loop μ-loop
 loop-again-4 c =
-    let started-after = c .before .started-after in
-    let duration-after = c .before .before .duration-after in
-    let padding-after = c .before .before .before .padding-after in
-    let normal-after = c .before .before .before .before .normal-after in
-    let end-for = c .before .before .before .before .before .end-for in
-    let smaller = c .before .before .before .before .before .before .smaller in
-    let first-for = c .before .before .before .before .before .before .before .first-for in
+    let totals-after = c .totals-after in
+    let end-for = c .before .end-for in
+    let smaller = c .before .before .smaller in
+    let first-for = c .before .before .before .first-for in
+    let blocked-since = c .before .before .before .before .blocked-since in
+    let if3 = c .before .before .before .before .before .before .before .if3 in
     let c₁ = c .before .before .before .before .before .before .before .before in
-    let blocked-since = c₁ .blocked-since in
-    let if4 = c₁ .before .before .before .if4 in
-    let if1 = c₁ .before .before .before .before .if1 in
-    let loop = c₁ .before .before .before .before .before .loop in
+    let if1 = c₁ .if1 in
+    let loop = c₁ .before .loop in
     let c₂ = c₁ .before .before .before .before .before .before .before .before in
-    let pre = c₂ .before .before .before .before .before .before .pre in (
-      omega (arith, if4 .left),
-      kind-fits _ _ _ (if4 .left) (pre),
+    let pre = c₂ .before .before .pre in (
+      omega (arith, if3 .left),
+      kind-fits _ _ _ (if3 .left) (pre),
       λ h. end-for .ensures .1 .1 (rw (← first-for .ensures) h),
       loop .inv .3,
-      ahead-event (loop .inv .4) (if1 .left) (if4 .left)
+      ahead-event (loop .inv .4) (if1 .left) (if3 .left)
           (blocked-since .ensures) (first-for .ensures) (rw (smaller .ensures) at (end-for .ensures .0))
-          (normal-after .ensures) (padding-after .ensures) (duration-after .ensures)
-          (started-after .ensures) (c .active-after .ensures),
+          (totals-after .ensures),
     )
 
 pub run-events-spec : {M : Type 1} → statement M
@@ -525,23 +488,22 @@ run-events-spec =
     context-from-requires
     mul-p
     array-copy-out-p
+    settle-requires
+    enum-told
+    enum-known-short
+    mul-actions
+    array-set-from-actions
+    mul-r2
+    element-set-from-r2
+    add-m-2
+    loop-less-2
+    loop-again-2
     going-requires
+    after-own-requires
     enum-known-x
     stopped-requires-2
     returns-2
     enum-known-x-2
-    after-own-requires
-    enum-known-y
-    stopped-requires-3
-    returns-3
-    enum-known-y-2
-    mul-r2
-    element-set-from-r2
-    mul-actions
-    array-set-from-actions
-    add-m-2
-    loop-less-2
-    loop-again-2
     mul-r2-2
     element-set-from-r2-2
     mul-actions-2
@@ -549,7 +511,7 @@ run-events-spec =
     add-m-3
     loop-less-3
     loop-again-3
-    returns-4
+    returns-3
     mul-kind
     mul-kind-2
     shared-slice-read-kind
@@ -561,11 +523,7 @@ run-events-spec =
     first-for-requires
     smaller-requires
     end-for-requires
-    normal-after-requires
-    padding-after-requires
-    duration-after-requires
-    started-after-requires
-    active-after-requires
+    totals-after-requires
     add-i
     loop-less-4
     loop-again-4)
