@@ -14,7 +14,7 @@ use Rattle.tables.specs.Valid.Laws.{zero-valid}
 use Rattle.steps.specs.Events.{Tables, numMachines}
 use Rattle.steps.specs.Framework.{rowsIn, statesFit, fitsTables, kindsFit, eventsFit, batchRefusal}
 use Rattle.steps.specs.declared.Framework.{Framework}
-use Rattle.framework.proofs.All.{bool-cases}
+use Rattle.events.proofs.All.{bool-cases}
 
 pub first-is : (a b : ℕ) → (a ≡ 0 → ⊥) → orElse a b ≡ a
 unfolding orElse

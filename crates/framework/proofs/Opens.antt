@@ -13,8 +13,8 @@ use Rattle.steps.specs.Events.{Tables, Run, Outcome, stop, go, each, withRuntim
 use Rattle.steps.specs.Framework.{sharedFrom, noActions, newRuntime, startLimit, openTurn}
 use Rattle.steps.specs.declared.Framework.{Framework}
 use Rattle.steps.specs.declared.MachineRuntime.{MachineRuntime}
-use Rattle.framework.specs.Run.{run}
-use Rattle.framework.proofs.Turns.{each-end, each-on}
+use Rattle.events.specs.Run.{run}
+use Rattle.events.proofs.Turns.{each-end, each-on}
 
 -- so far: no actions, `at` value draws taken
 abbrev pub opens : Framework → ℕ → Run

@@ -4,7 +4,7 @@ use mathlib.Core.Path.{_≡_, sym, ap, _∙_}
 use Rattle.steps.specs.Events.{Run, Outcome, stop, go}
 use Rattle.steps.specs.declared.Ran.{Ran}
 use Rattle.steps.specs.declared.Verdict.the-variants.{Complete, Stopped}
-use Rattle.framework.specs.Run.{runOf, ranFrom}
+use Rattle.events.specs.Run.{runOf, ranFrom}
 
 module _ (x : Run) where
   pub stopped-is : (o : Outcome) (r : Ran) (n : ℕ) → r ≡ ranFrom x o → r .verdict ≡ Stopped n → o ≡ stop n

@@ -13,7 +13,7 @@ ghost use lib.Dec.{eqb, ltb};
 ghost use lib.ListN.{length};
 ghost use Rattle.machine.specs.Constants.{stateEnd};
 ghost use Rattle.steps.specs.Framework.{rowsIn, statesFit, fitsTables, kindsFit, eventsFit, endedTo};
-ghost use Rattle.framework.specs.Run.{tables};
+ghost use Rattle.events.specs.Run.{tables};
 
 // Whether a current state is ended, or one of the machine's.
 pub fn state_fits(current_state: u64, num_states: u64) -> bool

@@ -13,13 +13,10 @@ ghost use Prim.Native.Nat.{ℕ, _*_, _/_, _≤_};
 ghost use lib.ListN.{length};
 ghost use Rattle.steps.specs.Events.{numMachines};
 ghost use Rattle.steps.specs.Framework as Spec;
-ghost use Rattle.framework.specs.Run.{tables, tapes, runOf, entered, ranFrom};
+ghost use Rattle.events.specs.Run.{tables, tapes, runOf, entered, ranFrom};
 
-pub mod account; // what an event counts, and whose turn it is
 pub mod checks; // refusals 18 and 19
-pub mod events; // the events of a batch in order
 pub mod rows; // the output rows
-pub mod signals; // the signals after the last event
 pub mod start; // the machines of an opening
 
 // Framework::new.
@@ -124,7 +121,7 @@ pub fn trigger_events(
     }
     let f = ran.framework;
     let actions = ran.actions;
-    let heard = signals::run_signals(
+    let heard = events::signals::run_signals(
         machines,
         states,
         transitions,

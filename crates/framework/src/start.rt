@@ -1,5 +1,5 @@
 // The machines of an opening: each begins in state 0, with the limit that its start state draws.
-use super::account::states_of;
+use events::account::states_of;
 use machine::action::sample_limit;
 use machine::constants::ACTION;
 use machine::constants::ALLOWED_BLOCKED_MICROSEC;
@@ -16,7 +16,7 @@ ghost use mathlib.Core.List.{List};
 ghost use Prim.Native.Nat.{ℕ, _≤_};
 ghost use Rattle.steps.specs.Events.{stop};
 ghost use Rattle.steps.specs.Framework.{newFramework, newRuntime, startLimit, rowsIn, openRun, openedBy};
-ghost use Rattle.framework.specs.Run.{tables};
+ghost use Rattle.events.specs.Run.{tables};
 
 pub fn new_runtime(time: u64, allowed_blocked_microsec: u64, limit: u64) -> MachineRuntime
     ensures { λ r. ⌜ r ≡ newRuntime time «allowed_blocked_microsec» limit ⌝ }

@@ -15,7 +15,7 @@ use Rattle.steps.specs.Framework.{batch}
 use Rattle.steps.specs.Events.{Tables, Tapes}
 use Rattle.steps.specs.declared.Framework.{Framework}
 use Rattle.steps.specs.declared.Answer.{Answer}
-use Rattle.framework.specs.Run.{tables, tapes}
+use Rattle.events.specs.Run.{tables, tapes}
 use Rattle.run.specs.declared.Step.{Step}
 use Rattle.run.specs.Run.{stand, batchAt, stepOf, printed}
 use Rattle.run.proofs.Few.{actions-few}

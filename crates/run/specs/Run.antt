@@ -12,7 +12,7 @@ use Rattle.steps.specs.Events.{Tables}
 use Rattle.steps.specs.Framework.{Batch, batch, opening}
 use Rattle.steps.specs.declared.Framework.{Framework}
 use Rattle.steps.specs.declared.Opened.{Opened}
-use Rattle.framework.specs.Run.{tables, tapes}
+use Rattle.events.specs.Run.{tables, tapes}
 use Rattle.run.specs.declared.Step.{Step}
 use Rattle.run.specs.declared.Started.{Started}
 

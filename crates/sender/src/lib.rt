@@ -3,7 +3,7 @@ use steps::Framework;
 use steps::Opened;
 ghost use mathlib.Core.Path.{_≡_};
 ghost use Rattle.steps.specs.Framework as Spec;
-ghost use Rattle.framework.specs.Run.{tables, tapes};
+ghost use Rattle.events.specs.Run.{tables, tapes};
 ghost use Rattle.sender.specs.Reply.{replyOf};
 
 // A batch's answer without its framework: the refusal or 0, how many rows it wrote, and how many

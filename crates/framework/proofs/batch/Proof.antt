@@ -3,7 +3,7 @@ use borrow.Author.Needs.{needs}
 use mathlib.Core.Path.{refl, sym, _∙_}
 use borrow.Author.Tests.{eq-eqb, ne-eqb}
 use Rattle.steps.specs.Framework.{triggerEvents, batch}
-use Rattle.framework.specs.Run.{tables, tapes, entered}
+use Rattle.events.specs.Run.{tables, tapes, entered}
 use Rattle.framework.proofs.Checked.{batch-passes}
 use Rattle.framework.proofs.Outcomes.{stopped-is, complete-is}
 use Rattle.framework.proofs.batch.Statement.{statement}

@@ -7,7 +7,7 @@ use Prim.Native.Nat.{_/_}
 use lib.ListN.{length}
 use Rattle.steps.specs.Events.{each, eventTurn, signals}
 use Rattle.steps.specs.Framework.{begin, triggerEvents}
-use Rattle.framework.specs.Run.{tables, tapes, runOf, entered}
+use Rattle.events.specs.Run.{tables, tapes, runOf, entered}
 use Rattle.steps.specs.declared.Ran.{Ran}
 use Rattle.framework.proofs.Outcomes.{stopped-is, complete-is}
 use Rattle.framework.proofs.trigger_events.Statement.{statement}

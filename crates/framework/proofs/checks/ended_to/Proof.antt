@@ -10,7 +10,7 @@ use Rattle.machine.specs.Constants.{stateEnd}
 use Rattle.steps.specs.Events.{runtimeAt}
 use Rattle.steps.specs.Framework.{endedTo}
 use Rattle.steps.specs.declared.Framework.{Framework}
-use Rattle.framework.proofs.All.{all-more, all-fails}
+use Rattle.events.proofs.All.{all-more, all-fails}
 use Rattle.framework.proofs.checks.ended_to.Statement.{statement}
 use Rattle.framework.proofs.checks.ended_to.Tie as tie
 

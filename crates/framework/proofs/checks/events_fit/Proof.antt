@@ -10,7 +10,7 @@ use lib.ListN.{length}
 use borrow.Author.Tests.{eq-eqb, ne-eqb, le-leb, lt-leb}
 use Rattle.steps.specs.Events.{kindAt}
 use Rattle.steps.specs.Framework.{kindsFit, eventsFit}
-use Rattle.framework.proofs.All.{all-more, all-fails}
+use Rattle.events.proofs.All.{all-more, all-fails}
 use Rattle.framework.proofs.checks.events_fit.Statement.{statement}
 use Rattle.framework.proofs.checks.events_fit.Tie as tie
 

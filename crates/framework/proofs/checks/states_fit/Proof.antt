@@ -11,8 +11,8 @@ use Rattle.machine.specs.Constants.{stateEnd, numStates}
 use Rattle.steps.specs.Events.{Tables, runtimeAt, machineWord}
 use Rattle.steps.specs.Framework.{statesFit}
 use Rattle.steps.specs.declared.Framework.{Framework}
-use Rattle.framework.specs.Run.{tables}
-use Rattle.framework.proofs.All.{all-more, all-fails}
+use Rattle.events.specs.Run.{tables}
+use Rattle.events.proofs.All.{all-more, all-fails}
 use Rattle.framework.proofs.checks.states_fit.Statement.{statement}
 use Rattle.framework.proofs.checks.states_fit.Tie as tie
 

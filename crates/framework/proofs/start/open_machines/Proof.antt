@@ -7,7 +7,7 @@ use mathlib.Core.List.{List}
 use native.Mathlib.Nat.{sub-zero}
 use native.Mathlib.Omega.{arith}
 use Rattle.steps.specs.Framework.{openRun}
-use Rattle.framework.specs.Run.{tables}
+use Rattle.events.specs.Run.{tables}
 use Rattle.framework.proofs.Opens.{Opens, opens-end, opens-on, opens-stop}
 use Rattle.framework.proofs.start.open_machines.Statement.{statement}
 use Rattle.framework.proofs.start.open_machines.Tie as tie

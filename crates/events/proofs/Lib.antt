@@ -1,0 +1,4 @@
+pub mod All
+pub mod Counts
+pub mod Heard
+pub mod Turns

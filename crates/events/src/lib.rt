@@ -1,0 +1,215 @@
+// framework.rs, process_event: the events of a batch in order, each heard by its machines in order,
+// and the signals after them.
+use account::Totals;
+use account::blocked_since;
+use account::context_from;
+use account::end_for;
+use account::first_for;
+use account::limit_falls;
+use account::only_counts;
+use account::states_of;
+use account::totals_after;
+use machine::event::event_of;
+use steps::Framework;
+use steps::Ran;
+use steps::Shared;
+use steps::Stepped;
+use steps::TriggerAction;
+use steps::Verdict;
+use transition::choice::Choice;
+use transition::choice::choose;
+use transition::settle::Settled;
+use transition::settle::settle;
+ghost use mathlib.Core.Path.{_≡_};
+ghost use mathlib.Core.Bool.{true};
+ghost use Prim.Native.Nat.{_/_};
+ghost use lib.ListN.{length};
+ghost use Rattle.steps.specs.Transition.{noAction};
+ghost use Rattle.steps.specs.Events.{each, eventTurn};
+ghost use Rattle.steps.specs.Framework.{sharedFrom, begin, kindsFit};
+ghost use Rattle.steps.specs.declared.Verdict.the-variants.{Stopped};
+ghost use Rattle.events.specs.Run.{tables, tapes, entered, ran, ranFrom};
+
+pub mod account; // what an event counts, and whose turn it is
+pub mod signals; // the signals after the last event
+
+pub fn no_action() -> TriggerAction
+    ensures { λ r. ⌜ r ≡ noAction ⌝ }
+{
+    TriggerAction {
+        kind: 0,
+        flags: 0,
+        timer: 0,
+        timeout: 0,
+        duration: 0,
+    }
+}
+
+// What a call shares as it begins: no counter has reported zero, both tapes are at their front.
+pub fn shared_from(signal_pending: u64) -> Shared
+    ensures { λ r. ⌜ r ≡ sharedFrom «signal_pending» ⌝ }
+{
+    Shared {
+        signal_pending: signal_pending,
+        counter_a_zeroed: false,
+        counter_b_zeroed: false,
+        chance_at: 0,
+        value_at: 0,
+    }
+}
+
+// A run that was stopped: all as it was when it began.
+pub fn stopped(fw: Framework, refusal: u64) -> Ran
+    ensures { λ r. ⌜ r ≡ ran (Stopped refusal) (entered fw) ⌝ }
+{
+    let none = no_action();
+    let actions = [none; 16];
+    let s = shared_from(fw.signal_pending);
+    Ran {
+        verdict: Verdict::Stopped(refusal),
+        framework: fw,
+        actions: actions,
+        shared: s,
+    }
+}
+
+// The run over all events. A turn of the loop is one machine at one event, or takes the next event:
+// `i` events are taken, and of the last one the machines from `m` to `end` are left. One loop, since
+// a framework that is passed on is copied.
+pub fn run_events(
+    fw: Framework,
+    machines: &[u64],
+    states: &[u64],
+    transitions: &[u64],
+    time: u64,
+    events: &[u64],
+    chances: &[f32],
+    values: &[f64],
+) -> Ran
+    requires { ⌜ kindsFit (now events) (length (now events) / 2) ≡ true ⌝ }
+    ensures is { λ r. ⌜ (
+        let T = tables (now (machines .entry)) (now (states .entry)) (now (transitions .entry)) in
+        let D = tapes (now (chances .entry)) (now (values .entry)) in
+        let es = now (events .entry) in
+        r ≡ ranFrom (entered fw) (each (eventTurn T D es) (length es / 2) 0 (begin fw time))) ⌝ }
+    ensures keeps { λ r. ⌜ r .framework .machines ≡ fw .machines ⌝ }
+{
+    let none = no_action();
+    let mut f = fw;
+    f.current_time = time;
+    let mut actions = [none; 16];
+    let mut s = shared_from(fw.signal_pending);
+    let n = events.len() / 2;
+    let mut i = 0;
+    let mut m = 0;
+    let mut end = 0;
+    let mut kind = 0;
+    let mut machine = 0;
+    let mut blocked = 0;
+    loop {
+        if m < end {
+            let falls = limit_falls(kind, machine, m as u64);
+            let rows = states_of(machines, states, m);
+            let r = f.runtime[m];
+            let counted = transition::counted_by(kind, blocked, r);
+            let choice = choose(
+                rows,
+                transitions,
+                chances,
+                r.current_state,
+                event_of(kind),
+                s.chance_at,
+            );
+            let chosen = match choice {
+                Choice::Missing(why) => return stopped(fw, why),
+                Choice::Chosen(chosen, at) => {
+                    s.chance_at = at;
+                    chosen
+                }
+            };
+            if only_counts(falls, chosen) {
+                f.runtime[m] = counted;
+                m = m + 1;
+                continue;
+            }
+            let c = context_from(
+                machines,
+                m,
+                f.current_time,
+                f.max_padding_frac,
+                f.normal_sent_packets,
+                f.padding_sent_packets,
+                f.max_blocking_frac,
+                f.blocking_duration,
+                f.blocking_started,
+                f.blocking_active,
+                f.framework_start,
+            );
+            let p = actions[m];
+            let short = settle(rows, values, c, chosen, falls, counted, s, p);
+            match short {
+                Settled::Elsewhere => {}
+                Settled::At(d) => {
+                    s = d.shared;
+                    let p2 = d.action;
+                    actions[m] = p2;
+                    let r2 = d.runtime;
+                    f.runtime[m] = r2;
+                    m = m + 1;
+                    continue;
+                }
+            }
+            let went = transition::going(
+                rows,
+                transitions,
+                chances,
+                values,
+                c,
+                chosen,
+                counted,
+                s,
+                p,
+            );
+            let x = transition::after_own(rows, transitions, chances, values, c, falls, went);
+            match x {
+                Stepped::Refused(why) => return stopped(fw, why),
+                Stepped::Done(d) => {
+                    let r2 = d.runtime;
+                    f.runtime[m] = r2;
+                    let p2 = d.action;
+                    actions[m] = p2;
+                    s = d.shared;
+                    m = m + 1;
+                    continue;
+                }
+            }
+        }
+        if n <= i {
+            return Ran {
+                verdict: Verdict::Complete,
+                framework: f,
+                actions: actions,
+                shared: s,
+            };
+        }
+        kind = events[i * 2];
+        machine = events[i * 2 + 1];
+        blocked = blocked_since(f.blocking_active, f.current_time, f.blocking_started);
+        m = first_for(kind, machine) as usize;
+        end = end_for(kind, machine, numbers::smaller(f.machines, 16)) as usize;
+        let before = Totals {
+            normal_sent_packets: f.normal_sent_packets,
+            padding_sent_packets: f.padding_sent_packets,
+            blocking_duration: f.blocking_duration,
+            blocking_started: f.blocking_started,
+            blocking_active: f.blocking_active,
+        };
+        let after = totals_after(kind, before, f.current_time, blocked);
+        f.normal_sent_packets = after.normal_sent_packets;
+        f.padding_sent_packets = after.padding_sent_packets;
+        f.blocking_duration = after.blocking_duration;
+        f.blocking_started = after.blocking_started;
+        f.blocking_active = after.blocking_active;
+        i = i + 1;
+    }
+}
