@@ -14,8 +14,8 @@ use steps::Framework;
 use steps::Ran;
 use steps::Shared;
 use steps::Stepped;
-use steps::TriggerAction;
 use steps::Verdict;
+use transition::action::no_action;
 use transition::choice::Choice;
 use transition::choice::choose;
 use transition::settle::Settled;
@@ -24,7 +24,6 @@ ghost use mathlib.Core.Path.{_≡_};
 ghost use mathlib.Core.Bool.{true};
 ghost use Prim.Native.Nat.{_/_};
 ghost use lib.ListN.{length};
-ghost use Rattle.steps.specs.Transition.{noAction};
 ghost use Rattle.steps.specs.Events.{each, eventTurn};
 ghost use Rattle.steps.specs.Framework.{sharedFrom, begin, kindsFit};
 ghost use Rattle.steps.specs.declared.Verdict.the-variants.{Stopped};
@@ -32,18 +31,6 @@ ghost use Rattle.events.specs.Run.{tables, tapes, entered, ran, ranFrom}
 
 pub mod account; // what an event counts, and whose turn it is
 pub mod signals; // the signals after the last event
-
-pub fn no_action() -> TriggerAction
-    ensures { λ r. ⌜ r ≡ noAction ⌝ }
-{
-    TriggerAction {
-        kind: 0,
-        flags: 0,
-        timer: 0,
-        timeout: 0,
-        duration: 0,
-    }
-}
 
 // What a call shares as it begins: no counter has reported zero, both tapes are at their front.
 pub fn shared_from(signal_pending: u64) -> Shared
@@ -146,6 +133,7 @@ pub fn run_events(
                 f.framework_start,
             );
             let p = actions[m];
+            // the short way; what it gives is stored apart from the long way's, so that neither is copied
             let short = settle(rows, values, c, chosen, falls, counted, s, p);
             match short {
                 Settled::Elsewhere => {}

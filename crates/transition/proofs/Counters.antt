@@ -24,8 +24,7 @@ use Rattle.steps.specs.declared.TriggerAction.{TriggerAction}
 use Rattle.steps.specs.declared.Stepped.{Stepped}
 use Rattle.steps.specs.declared.Updated.the-variants.{Counters}
 use Rattle.transition.specs.Both.{withA, withB, updateBoth, update-counter-is}
-use Rattle.transition.specs.declared.counter.CountedBoth.{CountedBoth}
-use Rattle.transition.specs.declared.counter.CountedBoth.the-variants.{Neither, Both}
+use Rattle.transition.specs.declared.counter.CountedBoth.the-variants.{Both}
 
 -- ---- one counter
 abbrev one : Bool → ℕ

@@ -31,7 +31,7 @@ use Rattle.steps.specs.declared.TriggerAction.{TriggerAction}
 use Rattle.steps.specs.declared.Update.{Update}
 use Rattle.steps.specs.declared.Updated.the-variants.{Counters}
 use Rattle.transition.specs.Both.{updateBoth, counted, afterBoth, update-counter-is}
-use Rattle.transition.specs.Transition.{goToAt, goingAt}
+use Rattle.transition.specs.Transition.{goingAt}
 use Rattle.transition.specs.declared.counter.CountedBoth.{CountedBoth}
 use Rattle.transition.specs.declared.counter.CountedBoth.the-variants.{Neither, Both}
 use Rattle.transition.specs.declared.settle.Settled.{Settled}
