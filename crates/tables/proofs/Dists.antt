@@ -5,8 +5,8 @@ use mathlib.Core.Bool.{Bool, true, false, cond, not}
 use lib.Dec.{eqb}
 use lib.Ieee.{Float}
 use borrow.Author.Tests.{eq-eqb, ne-eqb}
-use Rattle.machine.specs.Dist.{distType, validType, validUniform}
-use Rattle.machine.specs.declared.dist.DistType.the-variants.{Absent, Outside}
+use Rattle.samples.specs.Dist.{distType, validType, validUniform}
+use Rattle.samples.specs.declared.dist.DistType.the-variants.{Absent, Outside}
 
 other : (b : Bool) → not (validType (cond b Absent Outside)) ≡ false
 other true = refl

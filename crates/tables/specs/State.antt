@@ -7,9 +7,9 @@ use lib.ListN.{length, getD}
 use lib.Dec.{ltb, leb, eqb}
 use lib.Ieee.{Float, binary32, ofBits, add, lt, le}
 use Rattle.machine.specs.Constants.{stateEnd, stateSignal, eventNum, transitionWords, flags, timer, timeout, duration, limit, counterA, counterB, cancel, sendPadding, blockOutgoing, updateTimer}
-use Rattle.machine.specs.Dist.{distAt, validate}
-use Rattle.machine.specs.Action.{actionOf}
 use Rattle.machine.specs.State.{firstOf, countOf, targetAt, probabilityAt}
+use Rattle.samples.specs.Dist.{distAt, validate}
+use Rattle.samples.specs.Action.{actionOf}
 use Rattle.tables.specs.First.{orElse, firstRefusal}
 
 -- ---- a transition

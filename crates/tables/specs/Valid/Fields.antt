@@ -9,8 +9,8 @@ use lib.Dec.{ltb, eqb}
 use lib.ListN.{getD}
 use borrow.Author.Tests.{ltb-false, lt-ltb, le-ltb, eqb-true, eqb-false, eq-eqb, ne-eqb, not-false}
 use Rattle.machine.specs.Constants.{flags, timer, timeout, duration, limit, counterA, counterB}
-use Rattle.machine.specs.Dist.{distAt, validate}
-use Rattle.machine.specs.Action.{actionOf}
+use Rattle.samples.specs.Dist.{distAt, validate}
+use Rattle.samples.specs.Action.{actionOf}
 use Rattle.tables.specs.State.{neededUnknown, commonUnknown, actionUnknown, counterUnknown, codesUnknown, invalid, actionInvalid, counterInvalid, distsInvalid}
 use Rattle.tables.specs.Valid.{KnownAction, KnownCounter, KnownCodes, ValidDist, ValidAction, ValidCounter, ValidDists}
 use Rattle.tables.specs.Valid.Tests.{or-none, none-or}

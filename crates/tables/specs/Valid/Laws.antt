@@ -12,8 +12,8 @@ use lib.ListN.{length, getD}
 use lib.Ieee.{binary32, ofBits}
 use borrow.Author.Tests.{leb-true, leb-false, le-leb, lt-leb, ltb-true, ltb-false, le-ltb, eqb-true, eqb-false, eq-eqb, ne-eqb}
 use Rattle.machine.specs.Constants.{stateMax, machineMax, eventNum, machineWords, stateWords, transitionWords, maxPaddingFrac, maxBlockingFrac, firstState, numStates}
-use Rattle.machine.specs.Dist.{f64At}
 use Rattle.machine.specs.State.{rowsOf, firstOf, countOf, targetAt, probabilityAt}
+use Rattle.samples.specs.Dist.{f64At}
 use Rattle.tables.specs.First.{orElse, firstRefusal}
 use Rattle.tables.specs.First.Laws.{second, former, Met, none, some, met, all-zero}
 use Rattle.tables.specs.State.{probabilityWord, isTarget, improbable, transitionRefusal, seenBefore, sumFrom, sumRefusal, rowRefusal, pairRefusal, codesUnknown, distsInvalid, eventsRefusal, stateRefusal}

@@ -2,7 +2,7 @@
 use borrow.Author.Needs.{needs}
 use mathlib.Core.Path.{sym, _∙_}
 use borrow.Author.Tests.{eq-eqb, ne-eqb}
-use Rattle.machine.specs.Dist.{distAt, distType, validate, validUniform}
+use Rattle.samples.specs.Dist.{distAt, distType, validate, validUniform}
 use Rattle.tables.specs.State.{invalid}
 use Rattle.tables.proofs.Dists.{not-uniform, uniform}
 use Rattle.tables.proofs.state.invalid.Statement.{statement}
