@@ -6,8 +6,8 @@ use lib.Ieee.{Float}
 use lib.ListN.{set}
 use Rattle.machine.specs.Constants.{allowedBlockedMicrosec}
 use Rattle.machine.specs.State.{stateRow}
-use Rattle.machine.specs.declared.dist.Whole.{Whole}
-use Rattle.machine.specs.declared.dist.WholeDrawn.the-variants.{NoWhole, GotWhole}
+use Rattle.samples.specs.declared.dist.Whole.{Whole}
+use Rattle.samples.specs.declared.dist.WholeDrawn.the-variants.{NoWhole, GotWhole}
 use Rattle.steps.specs.Transition.{withValueAt}
 use Rattle.steps.specs.Events.{Tables, Run, Outcome, stop, go, each, withRuntime, machineWord, statesOf}
 use Rattle.steps.specs.Framework.{sharedFrom, noActions, newRuntime, startLimit, openTurn}

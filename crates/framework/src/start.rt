@@ -1,13 +1,13 @@
 // The machines of an opening: each begins in state 0, with the limit that its start state draws.
 use events::account::states_of;
-use machine::action::sample_limit;
 use machine::constants::ACTION;
 use machine::constants::ALLOWED_BLOCKED_MICROSEC;
 use machine::constants::MACHINE_WORDS;
-use machine::dist::Whole;
-use machine::dist::WholeDrawn;
 use machine::state::state_row;
 use machine::state::word;
+use samples::action::sample_limit;
+use samples::dist::Whole;
+use samples::dist::WholeDrawn;
 use steps::Framework;
 use steps::MachineRuntime;
 use steps::Opened;

@@ -1,7 +1,7 @@
 -- A part of a list whose start and end were cut at the list's length is the part that was asked for.
 -- Assumes nothing.
 use Prim.Native.Nat.{ℕ, _-_, _≤_, min}
-use mathlib.Core.Path.{_≡_, refl}
+use mathlib.Core.Path.{_≡_}
 use mathlib.Core.List.{List}
 use native.Mathlib.Omega.{arith}
 use native.Mathlib.Decide.{decLe}

@@ -1,15 +1,15 @@
 -- The call that comes next: its answer, its rows and what it prints, from what the calls in the code answered.
 use Prim.Native.Nat.{ℕ, _+_, _*_, _-_, _≤_, min}
-use mathlib.Core.Path.{_≡_, refl, sym, ap, _∙_}
+use mathlib.Core.Path.{_≡_, sym, _∙_}
 use mathlib.Core.List.{List, _++_}
 use native.Mathlib.Omega.{arith}
 use lib.Ieee.{Float}
-use lib.ListN.{length, take, drop, getD, replicate, length-drop}
+use lib.ListN.{length, take, drop, replicate, length-drop}
 use lib.Seq.{take-all}
 use Rattle.text.specs.Columns.{callText}
 use Rattle.text.specs.Words.{chances, values}
 use Rattle.text.proofs.Lines.{length-call-text}
-use Rattle.stream.specs.Stream.{callOf, machineTable, stateTable, transitionTable, chanceWords, valueWords, eventsOf, nextCall}
+use Rattle.stream.specs.Stream.{callOf, machineTable, stateTable, transitionTable, chanceWords, valueWords, eventsOf}
 use Rattle.stream.specs.declared.Call.{Call}
 use Rattle.steps.specs.Framework.{batch}
 use Rattle.steps.specs.Events.{Tables, Tapes}

@@ -1,13 +1,13 @@
 -- A batch returns at most 16 rows, one for each machine.
-use Prim.Native.Nat.{ℕ, zero, suc, _+_, _*_, _/_, _≤_, min}
+use Prim.Native.Nat.{ℕ, zero, suc, _*_, _≤_, min}
 use native.Mathlib.Omega.{arith}
 use mathlib.Core.Bool.{Bool, true, false, cond}
-use mathlib.Core.List.{List, _++_}
+use mathlib.Core.List.{List}
 use lib.Dec.{eqb}
 use lib.ListN.{length, length-append, getD}
 use Rattle.steps.specs.Events.{Tables, Tapes, Outcome, stop, go}
 use Rattle.steps.specs.Transition.{noAction}
-use Rattle.steps.specs.Framework.{Batch, batch, batchRefusal, triggerEvents, concluded, refused, actionRow, actionRows}
+use Rattle.steps.specs.Framework.{batch, batchRefusal, triggerEvents, concluded, refused, actionRow, actionRows}
 use Rattle.steps.specs.declared.Framework.{Framework}
 use Rattle.steps.specs.declared.TriggerAction.{TriggerAction}
 use Rattle.framework.proofs.Written.{row-short}

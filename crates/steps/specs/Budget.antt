@@ -28,7 +28,7 @@ use lib.Ieee.{Float, binary64, ofBits, lt, fits}
 use Rattle.numbers.specs.Fraction.{in1074}
 use Rattle.machine.specs.Constants.{allowedPaddingPackets, maxPaddingFrac, sendPadding}
 use Rattle.machine.specs.Event.{normalSent, paddingSent}
-use Rattle.machine.specs.Dist.{zeroF}
+use Rattle.samples.specs.Dist.{zeroF}
 use Rattle.steps.specs.Events.{Tables, Tapes, machineWord}
 use Rattle.steps.specs.Framework.{opening, Batch, batch, rowsIn}
 use Rattle.steps.specs.declared.Framework.{Framework}

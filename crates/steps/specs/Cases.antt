@@ -11,15 +11,15 @@ use Rattle.numbers.specs.Fraction.{reached}
 use Rattle.numbers.specs.Round.{roundAway}
 use Rattle.machine.specs.Constants.{action, timeout, counterA, counterB, sendPadding, decrement, setTo}
 use Rattle.machine.specs.Event.{normalSent, counterZero}
-use Rattle.machine.specs.Dist.{zeroF, distType, distAt, uniformDraw, outsideDraw, distSample, orZero, capped, adjusted, sample, gotWhole}
-use Rattle.machine.specs.Action.{sampleTimeout, sampleLimit, hasLimit}
-use Rattle.machine.specs.Counter.{sampleValue}
 use Rattle.machine.specs.State.{rowsOf, chanceDraw, walk, sampleState}
-use Rattle.machine.specs.declared.dist.DistType.the-variants.{Outside}
-use Rattle.machine.specs.declared.dist.Dist.{Dist}
-use Rattle.machine.specs.declared.dist.WholeDrawn.{WholeDrawn}
 use Rattle.machine.specs.declared.state.Next.{Next}
 use Rattle.machine.specs.declared.state.Next.the-variants.{State}
+use Rattle.samples.specs.Dist.{zeroF, distType, distAt, uniformDraw, outsideDraw, distSample, orZero, capped, adjusted, sample, gotWhole}
+use Rattle.samples.specs.Action.{sampleTimeout, sampleLimit, hasLimit}
+use Rattle.samples.specs.Counter.{sampleValue}
+use Rattle.samples.specs.declared.dist.DistType.the-variants.{Outside}
+use Rattle.samples.specs.declared.dist.Dist.{Dist}
+use Rattle.samples.specs.declared.dist.WholeDrawn.{WholeDrawn}
 use Rattle.steps.specs.Limits.{belowFraction, belowLimitPadding, belowActionLimits}
 use Rattle.steps.specs.Transition.{Env, env, noAction, enter, applied, updateOne, updateCounter, finish, transitionBy, zeroTransition, transition}
 use Rattle.steps.specs.Framework.{sharedFrom}

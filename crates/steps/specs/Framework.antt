@@ -7,11 +7,11 @@ use lib.ListN.{length, getD, set, drop, replicate}
 use lib.Dec.{ltb, leb, eqb}
 use lib.Ieee.{Float}
 use Rattle.machine.specs.Constants.{machineMax, machineWords, allowedBlockedMicrosec, numStates, stateEnd}
-use Rattle.machine.specs.Action.{actionOf, sampleLimit}
-use Rattle.machine.specs.Dist.{zeroF, gotWhole}
 use Rattle.machine.specs.State.{stateRow}
-use Rattle.machine.specs.declared.dist.WholeDrawn.{WholeDrawn}
-use Rattle.machine.specs.declared.dist.WholeDrawn.the-variants.{NoWhole, GotWhole}
+use Rattle.samples.specs.Action.{actionOf, sampleLimit}
+use Rattle.samples.specs.Dist.{zeroF, gotWhole}
+use Rattle.samples.specs.declared.dist.WholeDrawn.{WholeDrawn}
+use Rattle.samples.specs.declared.dist.WholeDrawn.the-variants.{NoWhole, GotWhole}
 use Rattle.tables.specs.First.{orElse}
 use Rattle.tables.specs.Framework.{fractionsRefusal}
 use Rattle.tables.specs.Machine.{tablesRefusal}

@@ -8,8 +8,8 @@ use lib.Ieee.{Float, lt}
 use Rattle.numbers.specs.Fraction.{reached}
 use Rattle.numbers.specs.Saturating.{saturatingAdd}
 use Rattle.machine.specs.Constants.{flags, sendPadding, blockOutgoing, updateTimer}
-use Rattle.machine.specs.Action.{actionOf}
-use Rattle.machine.specs.Dist.{zeroF}
+use Rattle.samples.specs.Action.{actionOf}
+use Rattle.samples.specs.Dist.{zeroF}
 use Rattle.steps.specs.declared.MachineRuntime.{MachineRuntime}
 use Rattle.steps.specs.declared.Context.{Context}
 

@@ -9,16 +9,16 @@ use lib.Ieee.{Float}
 use Rattle.numbers.specs.Saturating.{saturatingAdd}
 use Rattle.machine.specs.Constants.{timer, counterA, counterB, cancel, updateTimer, increment, decrement, stateEnd, stateSignal}
 use Rattle.machine.specs.Event.{limitReached, counterZero}
-use Rattle.machine.specs.Action.{actionOf, sampleTimeout, sampleDuration, sampleLimit, hasLimit}
-use Rattle.machine.specs.Counter.{sampleValue}
-use Rattle.machine.specs.Dist.{gotWhole}
 use Rattle.machine.specs.State.{stateRow, firstOf, countOf, chanceDraw, sampleState}
-use Rattle.machine.specs.declared.dist.WholeDrawn.{WholeDrawn}
-use Rattle.machine.specs.declared.dist.WholeDrawn.the-variants.{NoWhole, GotWhole}
 use Rattle.machine.specs.declared.state.ChanceDrawn.{ChanceDrawn}
 use Rattle.machine.specs.declared.state.ChanceDrawn.the-variants.{NoChance, GotChance}
 use Rattle.machine.specs.declared.state.Next.{Next}
 use Rattle.machine.specs.declared.state.Next.the-variants.{State, Nothing}
+use Rattle.samples.specs.Action.{actionOf, sampleTimeout, sampleDuration, sampleLimit, hasLimit}
+use Rattle.samples.specs.Counter.{sampleValue}
+use Rattle.samples.specs.Dist.{gotWhole}
+use Rattle.samples.specs.declared.dist.WholeDrawn.{WholeDrawn}
+use Rattle.samples.specs.declared.dist.WholeDrawn.the-variants.{NoWhole, GotWhole}
 use Rattle.steps.specs.Limits.{flagsOf, belowActionLimits}
 use Rattle.steps.specs.declared.MachineRuntime.{MachineRuntime}
 use Rattle.steps.specs.declared.Context.{Context}

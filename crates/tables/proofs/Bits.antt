@@ -1,14 +1,13 @@
 -- Marks: what is set by one more mark, and how the marks follow the targets of a row. Assumes nothing.
-use Prim.Native.Nat.{ℕ, zero, suc, _+_, _-_, _*_, _/_, _%_, _^_, _≤_, _<_}
+use Prim.Native.Nat.{ℕ, zero, suc, _+_, _-_, _*_, _/_, _%_, _^_, _<_}
 use native.Mathlib.Nat.{div-eq-of-lt, one-mul, zero-div}
 use native.Mathlib.Numerals.{lt-of-le-of-ne}
 use native.Mathlib.Omega.{arith}
-use mathlib.Core.Path.{_≡_, refl, sym, ap, _∙_, subst}
+use mathlib.Core.Path.{_≡_, refl, sym, ap, _∙_}
 use mathlib.Core.List.{List}
-use mathlib.Core.Bool.{Bool, true, false, _||_}
-use mathlib.Core.Logic.{_⊎_, inl, inr, ⊎-elim}
+use mathlib.Core.Bool.{Bool, true, false}
 use lib.Dec.{ltb, eqb, lit<}
-use lib.ListN.{length, getD, replicate, length-set}
+use lib.ListN.{length, getD, replicate}
 use lib.Seq.{getD-set-same, getD-set-other}
 use lib.Bits.{bitOr, or-shr, or-mod, or-zero-r}
 use lib.Pow.{pow-add, pow-lt, shl-shr, shl-exact}
@@ -61,10 +60,6 @@ pub one-bit : (k : ℕ) → k < 64 → 1 * 2 ^ k % 18446744073709551616 ≡ 2 ^ 
 one-bit k h = shl-exact 1 k 64 (lit< tt) (omega arith) ∙ one-mul (2 ^ k)
 
 -- ---- a mark
-pub marked-length : (marks : List ℕ) (m : ℕ) → length (marked marks m) ≡ length marks
-unfolding marked
-marked-length marks m = length-set marks (m / 64) _
-
 split : (a b : ℕ) → a / 64 ≡ b / 64 → a % 64 ≡ b % 64 → a ≡ b
 split a b p q = omega arith
 

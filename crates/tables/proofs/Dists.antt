@@ -1,12 +1,11 @@
 -- Which distributions can be invalid: a Uniform, by its bounds. Assumes nothing.
 use Prim.Native.Nat.{ℕ}
-use mathlib.Core.Path.{_≡_, refl, sym, ap}
+use mathlib.Core.Path.{_≡_, refl}
 use mathlib.Core.Bool.{Bool, true, false, cond, not}
 use lib.Dec.{eqb}
 use lib.Ieee.{Float}
-use borrow.Author.Tests.{eq-eqb, ne-eqb}
-use Rattle.machine.specs.Dist.{distType, validType, validUniform}
-use Rattle.machine.specs.declared.dist.DistType.the-variants.{Absent, Outside}
+use Rattle.samples.specs.Dist.{distType, validType, validUniform}
+use Rattle.samples.specs.declared.dist.DistType.the-variants.{Absent, Outside}
 
 other : (b : Bool) → not (validType (cond b Absent Outside)) ≡ false
 other true = refl

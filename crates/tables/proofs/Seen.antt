@@ -1,18 +1,17 @@
 -- Targets seen before in a row: by looking back over it, and by marks. Assumes nothing.
-use Prim.Native.Nat.{ℕ, zero, suc, _+_, _-_, _*_, _/_, _%_, _≤_, _<_}
-use native.Mathlib.Nat.{add-zero, sub-self}
-use native.Mathlib.Numerals.{add-one}
+use Prim.Native.Nat.{ℕ, zero, suc, _+_, _-_, _*_, _≤_, _<_}
+use native.Mathlib.Nat.{add-zero}
 use native.Mathlib.Omega.{arith}
-use mathlib.Core.Path.{_≡_, refl, sym, ap, _∙_, subst}
+use mathlib.Core.Path.{_≡_, refl, sym, ap, _∙_}
 use mathlib.Core.List.{List}
-use mathlib.Core.Bool.{Bool, true, false, cond, _||_, true≢false, false≢true}
+use mathlib.Core.Bool.{Bool, true, false, cond, _||_}
 use mathlib.Core.Logic.{_⊎_, inl, inr}
 use lib.Dec.{ltb, leb, eqb}
 use lib.ListN.{length}
-use borrow.Author.Tests.{ltb-true, ltb-false, eqb-true, eqb-false, eq-eqb, ne-eqb}
+use borrow.Author.Tests.{ltb-true, eqb-true, eqb-false, eq-eqb, ne-eqb}
 use Rattle.machine.specs.Constants.{stateEnd, stateSignal}
 use Rattle.machine.specs.State.{targetAt}
-use Rattle.tables.specs.State.{isTarget, improbable, probabilityWord, transitionRefusal, seenIn, seenBefore}
+use Rattle.tables.specs.State.{isTarget, probabilityWord, transitionRefusal, seenIn}
 use Rattle.tables.specs.Valid.Tests.{or-true, or-false}
 use Rattle.tables.specs.Marks.{markOf, isMarked, marked}
 use Rattle.tables.proofs.Bits.{mark-same, mark-other}

@@ -2,14 +2,14 @@
 -- `n` is the number of the machine's states, `row` a state's 58 words, `ts` the transition table.
 use Prim.Native.Nat.{ℕ, zero, suc, _+_, _-_, _*_}
 use mathlib.Core.List.{List}
-use mathlib.Core.Bool.{Bool, true, false, cond, not, _&&_, _||_}
+use mathlib.Core.Bool.{Bool, true, false, cond, not, _||_}
 use lib.ListN.{length, getD}
 use lib.Dec.{ltb, leb, eqb}
 use lib.Ieee.{Float, binary32, ofBits, add, lt, le}
 use Rattle.machine.specs.Constants.{stateEnd, stateSignal, eventNum, transitionWords, flags, timer, timeout, duration, limit, counterA, counterB, cancel, sendPadding, blockOutgoing, updateTimer}
-use Rattle.machine.specs.Dist.{distAt, validate}
-use Rattle.machine.specs.Action.{actionOf}
 use Rattle.machine.specs.State.{firstOf, countOf, targetAt, probabilityAt}
+use Rattle.samples.specs.Dist.{distAt, validate}
+use Rattle.samples.specs.Action.{actionOf}
 use Rattle.tables.specs.First.{orElse, firstRefusal}
 
 -- ---- a transition

@@ -178,7 +178,7 @@ fn invalid(row: &[u64], k: usize) -> bool
     }
     let low = numbers::f64_of_word(row[k + 1]);
     let high = numbers::f64_of_word(row[k + 2]);
-    if machine::dist::valid_uniform(low, high) {
+    if samples::dist::valid_uniform(low, high) {
         return false;
     }
     true

@@ -4,7 +4,7 @@ use mathlib.Core.Path.{_≡_, refl, sym, ap, _∙_}
 use mathlib.Core.List.{List, _++_, append-assoc, append-nil}
 use native.Mathlib.Numerals.{add-one}
 use native.Mathlib.Omega.{arith}
-use lib.ListN.{length, drop, set, getD, length-append, length-drop}
+use lib.ListN.{length, drop, set, getD, length-append}
 use lib.Seq.{drop-at, drop-drop}
 use Rattle.text.specs.Columns.{cellIn, callLine, rowLine, rowIn, rowLines, callText}
 use Rattle.text.proofs.Cells.{Upto, start, more, cell, cells, feed, length-right}

@@ -12,8 +12,8 @@ use lib.Dec.{eqb}
 use lib.Ieee.{Float}
 use Rattle.machine.specs.Constants.{counterA, counterB}
 use Rattle.machine.specs.Event.{counterZero}
-use Rattle.machine.specs.declared.dist.WholeDrawn.{WholeDrawn}
-use Rattle.machine.specs.declared.dist.WholeDrawn.the-variants.{NoWhole, GotWhole}
+use Rattle.samples.specs.declared.dist.WholeDrawn.{WholeDrawn}
+use Rattle.samples.specs.declared.dist.WholeDrawn.the-variants.{NoWhole, GotWhole}
 use Rattle.steps.specs.Transition.{Env, applied, counterOf, changedBy, changeOf, updateOne, unspent, left, withCounters, withZeroed, afterZero, updateCounter, zeroTransition, transitionAt, updateCounterAt}
 use Rattle.steps.specs.declared.Counter.{Counter}
 use Rattle.steps.specs.declared.Counted.{Counted}

@@ -8,12 +8,12 @@ use lib.Dec.{eqb}
 use borrow.Author.Tests.{eqb-true}
 use lib.Ieee.{Float}
 use Rattle.machine.specs.Constants.{stateEnd, stateSignal}
-use Rattle.machine.specs.Action.{sampleLimit}
 use Rattle.machine.specs.State.{stateRow}
-use Rattle.machine.specs.declared.dist.WholeDrawn.{WholeDrawn}
-use Rattle.machine.specs.declared.dist.WholeDrawn.the-variants.{NoWhole, GotWhole}
 use Rattle.machine.specs.declared.state.Next.{Next}
 use Rattle.machine.specs.declared.state.Next.the-variants.{State, Nothing}
+use Rattle.samples.specs.Action.{sampleLimit}
+use Rattle.samples.specs.declared.dist.WholeDrawn.{WholeDrawn}
+use Rattle.samples.specs.declared.dist.WholeDrawn.the-variants.{NoWhole, GotWhole}
 use Rattle.steps.specs.Limits.{belowActionLimits}
 use Rattle.steps.specs.Transition.{Env, env, withValueAt, withCounters, withZeroed, done, enter, enteredWith, scheduleAction, scheduledStep, hasChanged, finish, finished, afterZero, entering, zeroTransition}
 use Rattle.steps.specs.declared.Context.{Context}

@@ -1,13 +1,13 @@
 // framework.rs: the action that a state's row schedules (schedule_action).
-use machine::action::sample_duration;
-use machine::action::sample_timeout;
 use machine::constants::ACTION;
 use machine::constants::CANCEL;
 use machine::constants::FLAGS;
 use machine::constants::TIMER;
 use machine::constants::UPDATE_TIMER;
-use machine::dist::WholeDrawn;
 use machine::state::word;
+use samples::action::sample_duration;
+use samples::action::sample_timeout;
+use samples::dist::WholeDrawn;
 use steps::Scheduled;
 use steps::TriggerAction;
 ghost use mathlib.Core.Path.{_≡_};

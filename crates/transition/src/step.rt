@@ -1,9 +1,9 @@
 // The parts of a step: what a transition makes of its machine before and after its counter update.
 use super::action::schedule_action;
 use super::limits::below_action_limits;
-use machine::action::sample_limit;
 use machine::constants::STATE_END;
-use machine::dist::WholeDrawn;
+use samples::action::sample_limit;
+use samples::dist::WholeDrawn;
 use steps::Context;
 use steps::Counter;
 use steps::Entered;

@@ -1,15 +1,15 @@
 -- `linkrun::calls` meets its contract: what is left of the input's text behind the bytes handed over is what the calls that are
 -- left print.
-use Prim.Native.Nat.{ℕ, _+_, _*_, _-_, _≤_, _<_}
+use Prim.Native.Nat.{ℕ, _+_, _*_, _-_, _≤_}
 use native.Mathlib.Omega.{arith}
 use native.Mathlib.Nat.{sub-zero}
 use mathlib.Core.Path.{_≡_, refl, sym, ap, _∙_}
 use mathlib.Core.Bool.{Bool, true, false}
-use lib.ListN.{length, take, drop, length-take}
-use Rattle.stream.specs.Stream.{callAt, callCount, callsAt}
+use lib.ListN.{length, drop, length-take}
+use Rattle.stream.specs.Stream.{callAt}
 use Rattle.stream.specs.Inside.{call-inside, calls-few}
 use Rattle.run.specs.declared.Step.{Step}
-use Rattle.run.specs.Run.{callsText, inputText, printed, stepOf}
+use Rattle.run.specs.Run.{callsText, inputText, printed}
 use Rattle.linkrun.proofs.Handing.{turn, part, rest, behind, none-left, next-is}
 use borrow.Author.Needs.{needs}
 use Rattle.linkrun.proofs.calls.Statement.{statement}

@@ -1,9 +1,9 @@
 -- `linkrun::main` hands over what its contracts ask: the line of a refused input, or the run of its words.
 use Prim.Native.Nat.{ℕ, _/_}
 use native.Mathlib.Omega.{arith}
-use mathlib.Core.Path.{_≡_, refl, sym, ap, _∙_}
-use mathlib.Core.List.{[], _++_}
-use lib.ListN.{length, take, drop, length-take}
+use mathlib.Core.Path.{_≡_, sym, ap, _∙_}
+use mathlib.Core.List.{[]}
+use lib.ListN.{length, take, length-take}
 use Rattle.text.specs.Columns.{callText}
 use Rattle.text.proofs.Lines.{length-call-text}
 use Rattle.stream.specs.Stream.{checkOf}

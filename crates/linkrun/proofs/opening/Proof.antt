@@ -1,10 +1,9 @@
 -- `linkrun::opening` meets its contract: its line is the first part of the run's text, and the calls print the rest.
-use Prim.Native.Nat.{ℕ, _+_, _*_, _≤_}
 use native.Mathlib.Omega.{arith}
-use mathlib.Core.Path.{_≡_, refl, sym, ap, _∙_}
+use mathlib.Core.Path.{_≡_, sym, _∙_}
 use mathlib.Core.Bool.{Bool, true, false}
-use mathlib.Core.List.{[], _++_}
-use lib.ListN.{length, take, drop, length-take}
+use mathlib.Core.List.{[]}
+use lib.ListN.{length, length-take}
 use Rattle.text.specs.Columns.{callText}
 use Rattle.text.proofs.Lines.{length-call-text}
 use Rattle.run.specs.Run.{inputText}

@@ -1,8 +1,8 @@
 -- `linkrun::run` meets its contract: the tapes are the floats of the input's draw words.
 use native.Mathlib.Omega.{arith}
-use mathlib.Core.Path.{_≡_, refl, sym, ap, _∙_}
+use mathlib.Core.Path.{ap, _∙_}
 use mathlib.Core.List.{map}
-use lib.ListN.{length, take, drop, length-take, length-map}
+use lib.ListN.{length, take, length-take, length-map}
 use lib.Seq.{take-at}
 use Rattle.text.specs.Words.{chanceOf, chances, valueOf, values}
 use Rattle.stream.specs.Inside.{tapes-inside}

@@ -1,7 +1,6 @@
 -- `run::one_call` meets its contract: the batch of the parts that the words hold, and the text of its answer.
 use native.Mathlib.Omega.{arith}
-use mathlib.Core.Path.{_≡_, refl, sym, ap, _∙_}
-use lib.ListN.{length}
+use mathlib.Core.Path.{_≡_, ap, _∙_}
 use Rattle.steps.specs.Framework.{Batch}
 use Rattle.run.specs.Run.{batchAt}
 use Rattle.run.proofs.Called.{answered, stepped, prints, rows-few}

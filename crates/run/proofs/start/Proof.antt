@@ -1,8 +1,5 @@
 -- `run::start` meets its contract: the opening of the parts that the words hold.
-use Prim.Native.Nat.{ℕ, _+_, min}
-use native.Mathlib.Omega.{arith}
-use mathlib.Core.Path.{_≡_, refl, sym, ap, _∙_}
-use lib.ListN.{length}
+use mathlib.Core.Path.{_≡_, ap}
 use Rattle.stream.specs.declared.Layout.{Layout}
 use Rattle.run.specs.Run.{started, openedOf}
 use borrow.Author.Needs.{needs}

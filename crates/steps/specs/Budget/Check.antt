@@ -18,7 +18,7 @@ use Rattle.numbers.specs.Fraction.Laws.{units-positive, passed-is-below}
 use Rattle.numbers.specs.Positive.{positive-above}
 use Rattle.numbers.specs.Saturating.{saturatingAdd}
 use Rattle.machine.specs.Constants.{machineMax, maxPaddingFrac}
-use Rattle.machine.specs.Dist.{zeroF}
+use Rattle.samples.specs.Dist.{zeroF}
 use Rattle.steps.specs.Limits.{limitLeft, belowFraction, belowLimitPadding}
 use Rattle.steps.specs.Events.{Tables, machineWord}
 use Rattle.steps.specs.Framework.{rowsIn}

@@ -8,19 +8,19 @@ use lib.ListN.{length, getD}
 use lib.Ieee.{Float, nan, eq, le, lt, toUnsigned}
 use Rattle.numbers.specs.Round.{roundAway}
 use Rattle.machine.specs.Constants.{timeout, duration, limit, maxSampledTimeout, maxSampledDuration}
-use Rattle.machine.specs.Dist.{distAt, nextValue, uniformDraw, outsideDraw, sampleOfType, distSample, adjustedDraw, sample, wholeOf}
-use Rattle.machine.specs.Action.{hasTimeout, hasDuration, hasLimit, sampleTimeout, sampleDuration, sampleLimit}
-use Rattle.machine.specs.Counter.{sampleValue}
 use Rattle.machine.specs.State.{fitChance, chanceDraw}
-use Rattle.machine.specs.declared.dist.DistType.{DistType}
-use Rattle.machine.specs.declared.dist.DistType.the-variants.{Absent, Uniform, Outside}
-use Rattle.machine.specs.declared.dist.Dist.{Dist}
-use Rattle.machine.specs.declared.dist.ValueDrawn.{ValueDrawn}
-use Rattle.machine.specs.declared.dist.ValueDrawn.the-variants.{NoValue, GotValue}
-use Rattle.machine.specs.declared.dist.WholeDrawn.{WholeDrawn}
-use Rattle.machine.specs.declared.dist.WholeDrawn.the-variants.{NoWhole, GotWhole}
 use Rattle.machine.specs.declared.state.ChanceDrawn.{ChanceDrawn}
 use Rattle.machine.specs.declared.state.ChanceDrawn.the-variants.{NoChance, GotChance}
+use Rattle.samples.specs.Dist.{distAt, nextValue, uniformDraw, outsideDraw, sampleOfType, distSample, adjustedDraw, sample, wholeOf}
+use Rattle.samples.specs.Action.{hasTimeout, hasDuration, hasLimit, sampleTimeout, sampleDuration, sampleLimit}
+use Rattle.samples.specs.Counter.{sampleValue}
+use Rattle.samples.specs.declared.dist.DistType.{DistType}
+use Rattle.samples.specs.declared.dist.DistType.the-variants.{Absent, Uniform, Outside}
+use Rattle.samples.specs.declared.dist.Dist.{Dist}
+use Rattle.samples.specs.declared.dist.ValueDrawn.{ValueDrawn}
+use Rattle.samples.specs.declared.dist.ValueDrawn.the-variants.{NoValue, GotValue}
+use Rattle.samples.specs.declared.dist.WholeDrawn.{WholeDrawn}
+use Rattle.samples.specs.declared.dist.WholeDrawn.the-variants.{NoWhole, GotWhole}
 
 -- what holds of both holds of the one that a test chooses
 pub either : {A : Type 0} (P : A → Type 0) (b : Bool) (x y : A) → P x → P y → P (cond b x y)

@@ -10,14 +10,14 @@ use lib.ListN.{getD}
 use lib.Ieee.{Float}
 use Rattle.machine.specs.Constants.{sendPadding, stateEnd, stateSignal, counterA, counterB}
 use Rattle.machine.specs.Event.{eventOf, limitReached, counterZero}
-use Rattle.machine.specs.Action.{actionOf, sampleTimeout, sampleDuration, sampleLimit, hasLimit}
 use Rattle.machine.specs.State.{stateRow, firstOf, countOf, chanceDraw, sampleState}
-use Rattle.machine.specs.declared.dist.WholeDrawn.{WholeDrawn}
-use Rattle.machine.specs.declared.dist.WholeDrawn.the-variants.{NoWhole, GotWhole}
 use Rattle.machine.specs.declared.state.ChanceDrawn.{ChanceDrawn}
 use Rattle.machine.specs.declared.state.ChanceDrawn.the-variants.{NoChance, GotChance}
 use Rattle.machine.specs.declared.state.Next.{Next}
 use Rattle.machine.specs.declared.state.Next.the-variants.{State, Nothing}
+use Rattle.samples.specs.Action.{actionOf, sampleTimeout, sampleDuration, sampleLimit, hasLimit}
+use Rattle.samples.specs.declared.dist.WholeDrawn.{WholeDrawn}
+use Rattle.samples.specs.declared.dist.WholeDrawn.the-variants.{NoWhole, GotWhole}
 use Rattle.steps.specs.Limits.{belowLimitPadding, belowActionLimits}
 use Rattle.steps.specs.Transition.{Env, noAction, withState, withCounters, withChanceAt, withValueAt, withZeroed, enteredWith, enter, withDuration, withTimeout, scheduleAction, changedBy, changeOf, updateOne, hasChanged, scheduledStep, finish, finished, afterZero, onB, onA, updateCounter, entering, going, drawn, transitionBy, zeroTransition, transition, decrementLimit}
 use Rattle.steps.specs.Events.{countedBy, afterTransition, turn}

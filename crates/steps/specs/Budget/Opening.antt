@@ -18,11 +18,11 @@ use Rattle.numbers.specs.Fraction.{in1074}
 use Rattle.numbers.specs.Fraction.Laws.{positive-units}
 use Rattle.numbers.specs.Positive.{positive-is, limit-positive}
 use Rattle.machine.specs.Constants.{machineMax, machineWords, maxPaddingFrac}
-use Rattle.machine.specs.Dist.{zeroF}
-use Rattle.machine.specs.Action.{actionOf}
 use Rattle.machine.specs.State.{rowsOf, stateRow}
-use Rattle.machine.specs.declared.dist.WholeDrawn.{WholeDrawn}
-use Rattle.machine.specs.declared.dist.WholeDrawn.the-variants.{NoWhole, GotWhole}
+use Rattle.samples.specs.Dist.{zeroF}
+use Rattle.samples.specs.Action.{actionOf}
+use Rattle.samples.specs.declared.dist.WholeDrawn.{WholeDrawn}
+use Rattle.samples.specs.declared.dist.WholeDrawn.the-variants.{NoWhole, GotWhole}
 use Rattle.tables.specs.First.{orElse}
 use Rattle.tables.specs.Framework.{isFraction, fractionsRefusal}
 use Rattle.tables.specs.Valid.Laws.{zero-valid}

@@ -17,9 +17,9 @@ use Rattle.numbers.specs.Fraction.{reached, in1074}
 use Rattle.numbers.specs.Round.{roundAway}
 use Rattle.machine.specs.Constants.{action, timeout, sendPadding}
 use Rattle.machine.specs.Event.{eventOf, normalSent, paddingSent, tunnelSent}
-use Rattle.machine.specs.Dist.{zeroF, distType, distAt, validUniform, validate, uniformDraw, distSample, orZero, capped, adjusted, sample}
-use Rattle.machine.specs.Action.{sampleTimeout, sampleDuration, sampleLimit, hasLimit}
 use Rattle.machine.specs.State.{rowsOf, chanceDraw, walk, sampleState}
+use Rattle.samples.specs.Dist.{zeroF, distType, distAt, validUniform, validate, uniformDraw, distSample, orZero, capped, adjusted, sample}
+use Rattle.samples.specs.Action.{sampleTimeout, sampleDuration, sampleLimit, hasLimit}
 use Rattle.tables.specs.First.{orElse, firstRefusal}
 use Rattle.tables.specs.State.{eventsRefusal, pairRefusal, rowRefusal, sumRefusal, transitionRefusal, isTarget, improbable, seenIn, sumFrom, codesUnknown, actionUnknown, commonUnknown, neededUnknown, counterUnknown, distsInvalid, actionInvalid, counterInvalid, invalid, stateRefusal}
 use Rattle.tables.specs.Machine.{beyondFraction, eachState, statesRefusal, machineRefusal, wholeTables, tablesRefusal}

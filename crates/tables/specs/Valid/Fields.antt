@@ -1,16 +1,16 @@
 -- A state's codes and distributions: the tests of 14 and 15 say what `Valid` says in plain words, both ways. Assumes nothing.
 use Prim.Native.Nat.{ℕ, _+_, _≤_, _<_}
 use native.Mathlib.Omega.{arith}
-use mathlib.Core.Path.{_≡_, refl, sym, ap, _∙_, subst}
+use mathlib.Core.Path.{_≡_, refl}
 use mathlib.Core.List.{List}
-use mathlib.Core.Bool.{Bool, true, false, cond, not, _||_, true≢false}
-use mathlib.Core.Logic.{_⊎_, inl, inr, ⊎-elim}
+use mathlib.Core.Bool.{Bool, true, false, cond, _||_, true≢false}
+use mathlib.Core.Logic.{_⊎_, inl, inr}
 use lib.Dec.{ltb, eqb}
 use lib.ListN.{getD}
-use borrow.Author.Tests.{ltb-false, lt-ltb, le-ltb, eqb-true, eqb-false, eq-eqb, ne-eqb, not-false}
+use borrow.Author.Tests.{ltb-false, le-ltb, eqb-true, eqb-false, eq-eqb, ne-eqb, not-false}
 use Rattle.machine.specs.Constants.{flags, timer, timeout, duration, limit, counterA, counterB}
-use Rattle.machine.specs.Dist.{distAt, validate}
-use Rattle.machine.specs.Action.{actionOf}
+use Rattle.samples.specs.Dist.{distAt, validate}
+use Rattle.samples.specs.Action.{actionOf}
 use Rattle.tables.specs.State.{neededUnknown, commonUnknown, actionUnknown, counterUnknown, codesUnknown, invalid, actionInvalid, counterInvalid, distsInvalid}
 use Rattle.tables.specs.Valid.{KnownAction, KnownCounter, KnownCodes, ValidDist, ValidAction, ValidCounter, ValidDists}
 use Rattle.tables.specs.Valid.Tests.{or-none, none-or}

@@ -1,27 +1,27 @@
 -- The answer of the tables is that of document 01: `answered` says of each number where its condition is met first, and
 -- `zero-valid` and `valid-zero` that 0 is answered exactly for `Valid` tables. Assumes nothing.
-use Prim.Native.Nat.{ℕ, zero, suc, _+_, _-_, _*_, _/_, _%_, _≤_, _<_}
-use native.Mathlib.Nat.{eq-or-lt-of-le, zero-add}
+use Prim.Native.Nat.{ℕ, _+_, _*_, _/_, _%_, _≤_, _<_}
+use native.Mathlib.Nat.{zero-add}
 use native.Mathlib.Omega.{arith}
-use mathlib.Core.Path.{_≡_, refl, sym, ap, _∙_, subst}
+use mathlib.Core.Path.{_≡_, refl, sym, _∙_, subst}
 use mathlib.Core.List.{List}
 use mathlib.Core.Bool.{Bool, true, false, cond, _&&_, _||_}
-use mathlib.Core.Logic.{_⊎_, inl, inr, ⊎-elim}
+use mathlib.Core.Logic.{_⊎_, inl, inr}
 use lib.Dec.{ltb, leb, eqb}
 use lib.ListN.{length, getD}
 use lib.Ieee.{binary32, ofBits}
 use borrow.Author.Tests.{leb-true, leb-false, le-leb, lt-leb, ltb-true, ltb-false, le-ltb, eqb-true, eqb-false, eq-eqb, ne-eqb}
 use Rattle.machine.specs.Constants.{stateMax, machineMax, eventNum, machineWords, stateWords, transitionWords, maxPaddingFrac, maxBlockingFrac, firstState, numStates}
-use Rattle.machine.specs.Dist.{f64At}
 use Rattle.machine.specs.State.{rowsOf, firstOf, countOf, targetAt, probabilityAt}
+use Rattle.samples.specs.Dist.{f64At}
 use Rattle.tables.specs.First.{orElse, firstRefusal}
 use Rattle.tables.specs.First.Laws.{second, former, Met, none, some, met, all-zero}
 use Rattle.tables.specs.State.{probabilityWord, isTarget, improbable, transitionRefusal, seenBefore, sumFrom, sumRefusal, rowRefusal, pairRefusal, codesUnknown, distsInvalid, eventsRefusal, stateRefusal}
 use Rattle.tables.specs.Machine.{beyondFraction, eachState, statesRefusal, machineRefusal, wholeTables, tablesRefusal}
-use Rattle.tables.specs.Valid.{Fraction, Probability, Target, Seen, ValidTransition, ValidRow, ValidPair, ValidEvents, KnownCodes, ValidDists, ValidState, ValidPlace, stateOf, ValidMachine, Whole, Valid, FirstAt}
+use Rattle.tables.specs.Valid.{Fraction, ValidTransition, ValidPair, ValidEvents, ValidState, ValidPlace, stateOf, ValidMachine, Whole, Valid, FirstAt}
 use Rattle.tables.specs.Valid.{TransitionAnswer, transition-passes, nine, ten, eleven, twelve, PairAnswer, pair-passes, eight, first-transition, thirteen}
 use Rattle.tables.specs.Valid.{StateAnswer, state-passes, first-event, fourteen, fifteen, MachineAnswer, machine-passes, four, five, six, seven, first-state, TablesAnswer, tables-pass, three, first-machine}
-use Rattle.tables.specs.Valid.Tests.{fraction, no-fraction, of-fraction, probability, no-probability, of-probability, target, of-target, unseen, seen, of-unseen, clash, or-none, none-or}
+use Rattle.tables.specs.Valid.Tests.{fraction, no-fraction, of-fraction, probability, no-probability, of-probability, target, of-target, unseen, seen, of-unseen, clash}
 use Rattle.tables.specs.Valid.Fields.{known-codes, of-known-codes, valid-dists, of-valid-dists}
 
 -- ---- the first refusal met, of f at i, i + 1, .., k of them

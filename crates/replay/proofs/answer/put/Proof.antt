@@ -1,7 +1,6 @@
 -- `replay::answer::put` is safe and ends.
 use borrow.Author.Needs.{needs}
 use Prim.Native.Nat.{_≤_, _-_}
-use native.Mathlib.Omega.{arith}
 use lib.ListN.{length}
 use Rattle.replay.proofs.answer.put.Statement.{statement}
 use Rattle.replay.proofs.answer.put.Tie as tie

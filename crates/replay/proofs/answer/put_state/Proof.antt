@@ -1,7 +1,6 @@
 -- `replay::answer::put_state` is safe and ends.
 use borrow.Author.Needs.{needs}
 use Prim.Native.Nat.{_≤_, _-_}
-use native.Mathlib.Omega.{arith}
 use Rattle.replay.proofs.answer.put_state.Statement.{statement}
 use Rattle.replay.proofs.answer.put_state.Tie as tie
 

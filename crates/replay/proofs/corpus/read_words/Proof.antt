@@ -2,7 +2,7 @@
 use borrow.Author.Needs.{needs}
 use Prim.Native.Nat.{ℕ}
 use native.Mathlib.Omega.{arith}
-use lib.ListN.{length-replicate, length-take, length-drop}
+use lib.ListN.{length-replicate}
 use Rattle.replay.proofs.corpus.read_words.Statement.{statement}
 use Rattle.replay.proofs.corpus.read_words.Tie as tie
 

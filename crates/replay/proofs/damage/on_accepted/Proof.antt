@@ -1,7 +1,6 @@
 -- `replay::damage::on_accepted` is safe and ends.
 use borrow.Author.Needs.{needs}
 use Prim.Native.Nat.{_≤_, _-_}
-use native.Mathlib.Omega.{arith}
 use Rattle.replay.proofs.damage.on_accepted.Statement.{statement}
 use Rattle.replay.proofs.damage.on_accepted.Tie as tie
 

@@ -1,7 +1,6 @@
 -- `replay::judge::ended_as_it_is` is safe and ends.
 use borrow.Author.Needs.{needs}
 use Prim.Native.Nat.{_≤_, _-_}
-use native.Mathlib.Omega.{arith}
 use Rattle.replay.proofs.judge.ended_as_it_is.Statement.{statement}
 use Rattle.replay.proofs.judge.ended_as_it_is.Tie as tie
 

@@ -1,7 +1,6 @@
 -- `replay::judge::start_limits` is safe and ends.
 use borrow.Author.Needs.{needs}
 use Prim.Native.Nat.{_≤_, _-_}
-use native.Mathlib.Omega.{arith}
 use Rattle.replay.proofs.judge.start_limits.Statement.{statement}
 use Rattle.replay.proofs.judge.start_limits.Tie as tie
 

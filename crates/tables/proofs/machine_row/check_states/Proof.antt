@@ -1,6 +1,5 @@
 -- `machine_row::check_states` meets its contract: the code's tests in their order are the definition's. Assumes nothing.
 use borrow.Author.Needs.{needs}
-use Prim.Native.Nat.{_≤_}
 use mathlib.Core.Path.{_∙_}
 use native.Mathlib.Omega.{arith}
 use denote.Ref.{now}

@@ -1,7 +1,7 @@
 -- `row::seen_before` meets its contract. The loop's invariant: the answer is that of the transitions from j on. Assumes nothing.
 use borrow.Author.Needs.{needs}
 use Prim.Native.Nat.{_≤_, _-_}
-use mathlib.Core.Path.{_≡_, refl, sym, _∙_}
+use mathlib.Core.Path.{_≡_, sym, _∙_}
 use Rattle.tables.specs.State.{seenIn, seenBefore}
 use Rattle.tables.proofs.Seen.{seen-on, seen-here, seen-end}
 use Rattle.tables.proofs.row.seen_before.Statement.{statement}

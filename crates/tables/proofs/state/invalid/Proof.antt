@@ -1,8 +1,8 @@
 -- `state::invalid` meets its contract: only a Uniform can be invalid, and by its bounds. Assumes nothing.
 use borrow.Author.Needs.{needs}
 use mathlib.Core.Path.{sym, _∙_}
-use borrow.Author.Tests.{eq-eqb, ne-eqb}
-use Rattle.machine.specs.Dist.{distAt, distType, validate, validUniform}
+use borrow.Author.Tests.{ne-eqb}
+use Rattle.samples.specs.Dist.{distAt, validate}
 use Rattle.tables.specs.State.{invalid}
 use Rattle.tables.proofs.Dists.{not-uniform, uniform}
 use Rattle.tables.proofs.state.invalid.Statement.{statement}

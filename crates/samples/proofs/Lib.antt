@@ -1,0 +1,2 @@
+-- A lemma of floats that a function's proof cites.
+mod Whole

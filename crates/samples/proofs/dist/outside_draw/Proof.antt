@@ -1,0 +1,26 @@
+-- `outside_draw` meets its contract: the code's test is that of the definition. Assumes nothing.
+use borrow.Author.Tests.{lt-ltb, le-ltb}
+use Rattle.samples.specs.Dist.{outsideDraw}
+use borrow.Author.Needs.{needs}
+use Rattle.samples.proofs.dist.outside_draw.Statement.{statement}
+use Rattle.samples.proofs.dist.outside_draw.Tie as tie
+
+mul-t5 : tie.Need-mul-t5
+mul-t5 c = search needs
+
+shared-slice-read-t7 : tie.Need-shared-slice-read-t7
+shared-slice-read-t7 c = search needs
+
+add-t8 : tie.Need-add-t8
+add-t8 c = search needs
+
+returns : tie.Need-returns
+unfolding outsideDraw
+returns c = rw (lt-ltb _ _ (c .before .if1 .taken))
+
+returns-2 : tie.Need-returns-2
+unfolding outsideDraw
+returns-2 c = rw (le-ltb _ _ (c .if1 .left))
+
+pub outside-draw-spec : {M : Type 1} → statement M
+outside-draw-spec = tie.close (tie.spec mul-t5 shared-slice-read-t7 add-t8 returns returns-2)

@@ -1,0 +1,23 @@
+-- `sample_at` meets its contract: what its functions ensure, put together. Assumes nothing.
+use Rattle.samples.specs.Dist.{sample}
+use borrow.Author.Needs.{needs}
+use Rattle.samples.proofs.dist.sample_at.Statement.{statement}
+use Rattle.samples.proofs.dist.sample_at.Tie as tie
+
+dist-at-requires : tie.Need-dist-at-requires
+dist-at-requires c κs = search needs
+
+dist-sample-requires : tie.Need-dist-sample-requires
+dist-sample-requires c κs = search needs
+
+adjusted-draw-requires : tie.Need-adjusted-draw-requires
+adjusted-draw-requires c κs = search needs
+
+returns : tie.Need-returns
+unfolding sample
+returns c =
+    rw (c .adjusted-draw .ensures, c .before .dist-sample .ensures, c .before .before .dist-at .ensures)
+
+pub sample-at-spec : {M : Type 1} → statement M
+sample-at-spec =
+    tie.close (tie.spec dist-at-requires dist-sample-requires adjusted-draw-requires returns)

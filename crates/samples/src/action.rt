@@ -1,0 +1,82 @@
+// action.rs: what an action draws.
+use super::dist::ValueDrawn;
+use super::dist::Whole;
+use super::dist::WholeDrawn;
+use super::dist::sample_at;
+use machine::constants::ABSENT;
+use machine::constants::ACTION;
+use machine::constants::BLOCK_OUTGOING;
+use machine::constants::DURATION;
+use machine::constants::LIMIT;
+use machine::constants::MAX_SAMPLED_DURATION;
+use machine::constants::MAX_SAMPLED_TIMEOUT;
+use machine::constants::SEND_PADDING;
+use machine::constants::STATE_LIMIT_MAX;
+use machine::constants::TIMEOUT;
+use machine::constants::UPDATE_TIMER;
+use machine::state::word;
+ghost use mathlib.Core.Path.{_≡_};
+ghost use Prim.Native.Nat.{min};
+ghost use Rattle.numbers.specs.Round.{roundAway};
+ghost use Rattle.samples.specs.Dist.{wholeOf};
+ghost use Rattle.samples.specs.Action.{sampleTimeout, sampleDuration, hasLimit, sampleLimit};
+
+// A drawn value to the nearest whole number, halves away from zero, at most `most`.
+fn rounded(drawn: ValueDrawn, most: u64) -> WholeDrawn
+    ensures { λ r. ⌜ r ≡ wholeOf (λ x. min (roundAway x) most) drawn ⌝ }
+{
+    match drawn {
+        ValueDrawn::NoValue(n) => WholeDrawn::NoWhole(n),
+        ValueDrawn::GotValue(v) => {
+            let value = numbers::smaller(numbers::round_half_away(v.value), most);
+            WholeDrawn::GotWhole(Whole {
+                value: value,
+                at: v.at,
+            })
+        }
+    }
+}
+
+// Action::sample_timeout: of SendPadding and BlockOutgoing; 0, with no draw, for any other action.
+pub fn sample_timeout(row: &[u64], values: &[f64], at: usize) -> WholeDrawn
+    ensures { λ r. ⌜ r ≡ sampleTimeout (now (row .entry)) (now (values .entry)) at ⌝ }
+{
+    let action = word(row, ACTION);
+    if (action == SEND_PADDING) | (action == BLOCK_OUTGOING) {
+        return rounded(sample_at(row, TIMEOUT, values, at), MAX_SAMPLED_TIMEOUT);
+    }
+    WholeDrawn::GotWhole(Whole { value: 0, at: at })
+}
+
+// Action::sample_duration: of BlockOutgoing and UpdateTimer; 0, with no draw, for any other action.
+pub fn sample_duration(row: &[u64], values: &[f64], at: usize) -> WholeDrawn
+    ensures { λ r. ⌜ r ≡ sampleDuration (now (row .entry)) (now (values .entry)) at ⌝ }
+{
+    let action = word(row, ACTION);
+    if (action == BLOCK_OUTGOING) | (action == UPDATE_TIMER) {
+        return rounded(sample_at(row, DURATION, values, at), MAX_SAMPLED_DURATION);
+    }
+    WholeDrawn::GotWhole(Whole { value: 0, at: at })
+}
+
+// Action::has_limit: every action but Cancel may have one.
+pub fn has_limit(row: &[u64]) -> bool
+    ensures { λ r. ⌜ r ≡ hasLimit (now (row .entry)) ⌝ }
+{
+    let action = word(row, ACTION);
+    let may = (action == SEND_PADDING) | (action == BLOCK_OUTGOING) | (action == UPDATE_TIMER);
+    may & (word(row, LIMIT) != ABSENT)
+}
+
+// Action::sample_limit; the largest u64, with no draw, where there is no limit.
+pub fn sample_limit(row: &[u64], values: &[f64], at: usize) -> WholeDrawn
+    ensures { λ r. ⌜ r ≡ sampleLimit (now (row .entry)) (now (values .entry)) at ⌝ }
+{
+    if has_limit(row) {
+        return rounded(sample_at(row, LIMIT, values, at), STATE_LIMIT_MAX);
+    }
+    WholeDrawn::GotWhole(Whole {
+        value: STATE_LIMIT_MAX,
+        at: at,
+    })
+}

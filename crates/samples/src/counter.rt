@@ -1,0 +1,42 @@
+// counter.rs: what a counter changes by.
+use super::dist::ValueDrawn;
+use super::dist::Whole;
+use super::dist::WholeDrawn;
+use super::dist::sample_at;
+use machine::constants::ABSENT;
+use machine::constants::COUNTER_DIST;
+use machine::state::word;
+ghost use mathlib.Core.Path.{_≡_};
+ghost use Prim.Native.Nat.{_+_, _≤_};
+ghost use Rattle.machine.specs.Constants.{stateWords};
+ghost use lib.Ieee.{toUnsigned};
+ghost use Rattle.samples.specs.Dist.{wholeOf};
+ghost use Rattle.samples.specs.Counter.{sampleValue};
+
+// A drawn value cut to a whole number, not rounded.
+fn cut_draw(drawn: ValueDrawn) -> WholeDrawn
+    ensures { λ r. ⌜ r ≡ wholeOf (toUnsigned 64) drawn ⌝ }
+{
+    match drawn {
+        ValueDrawn::NoValue(n) => WholeDrawn::NoWhole(n),
+        ValueDrawn::GotValue(v) => {
+            let value = numbers::cut(v.value);
+            WholeDrawn::GotWhole(Whole {
+                value: value,
+                at: v.at,
+            })
+        }
+    }
+}
+
+// The value of the counter that begins at word k: cut; 1 without a distribution.
+pub fn sample_value(row: &[u64], k: usize, values: &[f64], at: usize) -> WholeDrawn
+    requires { ⌜ k + 2 ≤ stateWords ⌝ }
+    ensures { λ r. ⌜ r ≡ sampleValue (now (row .entry)) k (now (values .entry)) at ⌝ }
+{
+    let dist = k + COUNTER_DIST;
+    if word(row, dist) == ABSENT {
+        return WholeDrawn::GotWhole(Whole { value: 1, at: at });
+    }
+    cut_draw(sample_at(row, dist, values, at))
+}

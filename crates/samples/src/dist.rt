@@ -1,0 +1,192 @@
+// dist.rs: a distribution, and what is drawn from it.
+use machine::constants::ABSENT;
+use machine::constants::NO_DRAW;
+use machine::constants::UNFIT_DRAW;
+use machine::constants::UNIFORM;
+use machine::state::word;
+ghost use mathlib.Core.Path.{_≡_};
+ghost use Prim.Native.Nat.{_≤_};
+ghost use Rattle.machine.specs.Constants.{stateWords};
+ghost use Rattle.samples.specs.Dist as Spec;
+
+// The kind of a distribution. Document 01's "drawn outside" stands for the ten kinds other than
+// Uniform.
+pub enum DistType {
+    Absent,
+    Uniform(f64, f64),
+    Outside,
+}
+
+pub struct Dist {
+    pub dist: DistType,
+    pub start: f64,
+    pub max: f64,
+}
+
+// A value, and where the value tape goes on.
+pub struct Value {
+    pub value: f64,
+    pub at: usize,
+}
+
+// A value that was drawn, or the refusal: 16 past the tape's end, 17 for a draw that is not fit.
+pub enum ValueDrawn {
+    NoValue(u64),
+    GotValue(Value),
+}
+
+// A whole number, and where the value tape goes on.
+pub struct Whole {
+    pub value: u64,
+    pub at: usize,
+}
+
+pub enum WholeDrawn {
+    NoWhole(u64),
+    GotWhole(Whole),
+}
+
+// ---- five words of a row
+
+// Every kind but the first two reads as drawn outside; the table checks leave only 2.
+fn dist_type(kind: u64, low: f64, high: f64) -> DistType
+    ensures { λ r. ⌜ r ≡ Spec.distType kind low high ⌝ }
+{
+    if kind == ABSENT {
+        return DistType::Absent;
+    }
+    if kind == UNIFORM {
+        return DistType::Uniform(low, high);
+    }
+    DistType::Outside
+}
+
+// The f64 whose bits are word k of a row.
+fn f64_at(row: &[u64], k: usize) -> f64
+    ensures { λ r. ⌜ r ≡ Spec.f64At (now (row .entry)) k ⌝ }
+{
+    numbers::f64_of_word(word(row, k))
+}
+
+// The distribution that begins at word k of a state row.
+fn dist_at(row: &[u64], k: usize) -> Dist
+    requires { ⌜ k ≤ stateWords ⌝ }
+    ensures { λ r. ⌜ r ≡ Spec.distAt (now (row .entry)) k ⌝ }
+{
+    let dist = dist_type(word(row, k), f64_at(row, k + 1), f64_at(row, k + 2));
+    let start = f64_at(row, k + 3);
+    let max = f64_at(row, k + 4);
+    Dist {
+        dist: dist,
+        start: start,
+        max: max,
+    }
+}
+
+// ---- Dist::validate: the parameters of a Uniform
+
+// Finite bounds in order, whose difference is finite too.
+pub fn valid_uniform(low: f64, high: f64) -> bool
+    ensures { λ r. ⌜ r ≡ Spec.validUniform low high ⌝ }
+{
+    let finite = numbers::is_finite(low) & numbers::is_finite(high);
+    finite & !(low > high) & numbers::is_finite(high - low)
+}
+
+// ---- the value tape: it is read by the next two functions alone
+
+// A Uniform value: 16 past the tape's end, 17 where it is not low <= v < high. With low = high it
+// takes no draw.
+fn uniform_draw(low: f64, high: f64, values: &[f64], at: usize) -> ValueDrawn
+    ensures { λ r. ⌜ r ≡ Spec.uniformDraw low high (now (values .entry)) at ⌝ }
+{
+    if low == high {
+        return ValueDrawn::GotValue(Value { value: low, at: at });
+    }
+    if at < values.len() {
+        let v = values[at];
+        if (low <= v) & (v < high) {
+            return ValueDrawn::GotValue(Value {
+                value: v,
+                at: at + 1,
+            });
+        }
+        return ValueDrawn::NoValue(UNFIT_DRAW);
+    }
+    ValueDrawn::NoValue(NO_DRAW)
+}
+
+// A value drawn outside: 16 past the tape's end.
+fn outside_draw(values: &[f64], at: usize) -> ValueDrawn
+    ensures { λ r. ⌜ r ≡ Spec.outsideDraw (now (values .entry)) at ⌝ }
+{
+    if at < values.len() {
+        return ValueDrawn::GotValue(Value {
+            value: values[at],
+            at: at + 1,
+        });
+    }
+    ValueDrawn::NoValue(NO_DRAW)
+}
+
+// ---- Dist::dist_sample and Dist::sample
+
+// Callers do not sample an absent distribution.
+fn dist_sample(d: Dist, values: &[f64], at: usize) -> ValueDrawn
+    ensures { λ r. ⌜ r ≡ Spec.distSample d (now (values .entry)) at ⌝ }
+{
+    let dist = d.dist;
+    match dist {
+        DistType::Absent => ValueDrawn::GotValue(Value { value: 0.0, at: at }),
+        DistType::Uniform(low, high) => uniform_draw(low, high, values, at),
+        DistType::Outside => outside_draw(values, at),
+    }
+}
+
+// What is not finite, or not above 0, becomes 0.0.
+fn or_zero(x: f64) -> f64
+    ensures { λ r. ⌜ r ≡ Spec.orZero x ⌝ }
+{
+    if numbers::is_finite(x) & (x > 0.0) {
+        return x;
+    }
+    0.0
+}
+
+// A sampled value with the start added, then at least 0. A max above 0 caps it; a NaN is not above
+// 0.
+fn adjusted(d: Dist, sampled: f64) -> f64
+    ensures { λ r. ⌜ r ≡ Spec.adjusted d sampled ⌝ }
+{
+    let x = or_zero(sampled + d.start);
+    let max = d.max;
+    if (max > 0.0) & (max < x) {
+        return max;
+    }
+    x
+}
+
+// A drawn value, adjusted, or the refusal of its draw.
+fn adjusted_draw(d: Dist, drawn: ValueDrawn) -> ValueDrawn
+    ensures { λ r. ⌜ r ≡ Spec.adjustedDraw d drawn ⌝ }
+{
+    match drawn {
+        ValueDrawn::NoValue(n) => ValueDrawn::NoValue(n),
+        ValueDrawn::GotValue(v) => {
+            let value = adjusted(d, v.value);
+            ValueDrawn::GotValue(Value {
+                value: value,
+                at: v.at,
+            })
+        }
+    }
+}
+
+// Dist::sample of the distribution that begins at word k of a state row.
+pub fn sample_at(row: &[u64], k: usize, values: &[f64], at: usize) -> ValueDrawn
+    requires { ⌜ k ≤ stateWords ⌝ }
+    ensures { λ r. ⌜ r ≡ Spec.sample (Spec.distAt (now (row .entry)) k) (now (values .entry)) at ⌝ }
+{
+    let d = dist_at(row, k);
+    adjusted_draw(d, dist_sample(d, values, at))
+}
