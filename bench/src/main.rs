@@ -104,6 +104,34 @@ fn events_table() {
     println!();
 }
 
+/// What an event costs beyond the first of its batch: that one carries what a batch that changes the
+/// framework costs once.
+fn further_events() {
+    println!("## A further event\n");
+    println!("A batch of 16 less a batch of 1, over 15.\n");
+    header(&["machines x states", "Rust ns", "ours ns", "ratio", "ours ns, the first one more"]);
+    for (count, states) in [(1, 3), (4, 5), (16, 6)] {
+        let empty = Case::new(count, states, 0, 400);
+        let one = Case::new(count, states, 1, 4000 / count);
+        let all = Case::new(count, states, 16, 250 / count);
+        let [rust_one, rust_all, ours_empty, ours_one, ours_all] = medians(
+            BLOCKS,
+            [
+                &mut || one.time_reference(),
+                &mut || all.time_reference(),
+                &mut || empty.time_ours(),
+                &mut || one.time_ours(),
+                &mut || all.time_ours(),
+            ],
+        );
+        let (rust, ours) = ((rust_all - rust_one) / 15.0, (ours_all - ours_one) / 15.0);
+        let first = ours_one - ours_empty - ours;
+        let ratio = ours / rust;
+        println!("| {count} x {states} | {rust:.1} | {ours:.1} | {ratio:.2} | {first:.1} |");
+    }
+    println!();
+}
+
 fn check_table() {
     println!("## The table check\n");
     header(&[
@@ -182,6 +210,7 @@ fn main() {
     }
     fixed_cost();
     events_table();
+    further_events();
     check_table();
     growth();
 }
