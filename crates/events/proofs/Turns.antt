@@ -23,7 +23,7 @@ use Rattle.steps.specs.declared.Stepped.{Stepped}
 use Rattle.steps.specs.declared.Stepped.the-variants.{Refused, Done}
 use Rattle.steps.specs.declared.TriggerAction.{TriggerAction}
 use Rattle.transition.specs.Choice.{choose, turn-missing, turn-chosen}
-use Rattle.transition.specs.Settle.{Settles}
+use Rattle.transition.specs.Settle.Laws.{Settles}
 use Rattle.transition.specs.Transition.{goingAt}
 use Rattle.transition.specs.declared.choice.Choice.{Choice}
 use Rattle.transition.specs.declared.choice.Choice.the-variants.{Missing, Chosen}

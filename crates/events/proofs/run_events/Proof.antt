@@ -8,7 +8,7 @@ use native.Mathlib.Omega.{arith}
 use Rattle.steps.specs.Events.{each, eventTurn}
 use Rattle.steps.specs.Framework.{begin}
 use Rattle.steps.specs.declared.Ran.{Ran}
-use Rattle.transition.specs.Settle.{short-way}
+use Rattle.transition.specs.Settle.Laws.{short-way}
 use Rattle.transition.specs.Transition.{at-most-two}
 use Rattle.events.specs.Run.{tables, tapes, ranFrom}
 use Rattle.events.proofs.Counts.{kind-fits, event-small}
