@@ -2,13 +2,7 @@
 # Builds and tests the reference, and checks that the recorded corpus is what the Rust answers. Where cargo
 # or the Rust sources are missing it says so and ends well: the recorded corpus then stands for them.
 set -euo pipefail
-cd "$(dirname "$0")"
-
-command -v cargo > /dev/null || { echo "reference: cargo is not here, nothing was compared"; exit 0; }
-sources=${MAYBENOT_SRC:-$(cat SOURCES)}
-[ -f "$sources/framework.rs" ] || { echo "reference: no Rust sources in $sources, nothing was compared"; exit 0; }
-MAYBENOT_SRC=$(cd "$sources" && pwd)
-export MAYBENOT_SRC
+. "$(dirname "$0")/here.sh"
 
 out=$(mktemp -d)
 trap 'rm -rf "$out"' EXIT

@@ -1,10 +1,10 @@
 //! Which inputs the corpus holds: those written by hand, and of each family the ones that bring most
 //! names of the table for their size.
 
-use crate::{Counts, add, corpus, counts_of};
-use harness::answers;
+use crate::{Counts, add, counts_of};
 use harness::generate::{FAMILIES, input};
 use harness::stream::words;
+use harness::{answers, corpus};
 
 /// A chosen input: its name, its bytes, and what it reaches.
 pub struct Chosen {

@@ -7,7 +7,6 @@ use harness::{answer, stream, tape};
 mod engine;
 
 pub mod choose;
-pub mod corpus;
 pub mod table;
 
 use answer::Answer;

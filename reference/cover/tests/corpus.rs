@@ -1,8 +1,8 @@
 //! The recorded corpus holds the Rust's answers and reaches everything in the table.
 
-use cover::{Counts, add, corpus, counts_of, table};
+use cover::{Counts, add, counts_of, table};
 use harness::stream::{bytes, words};
-use harness::{answers, run};
+use harness::{answers, corpus, run};
 use std::path::PathBuf;
 
 /// A path in the repository.

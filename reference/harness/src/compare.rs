@@ -1,14 +1,29 @@
-//! Runs a program in linkrun's place and compares what it prints with the Rust's run.
+//! Runs a program beside the Rust on inputs, and finds the first on which they differ.
 
+use crate::answer::Answer;
+use crate::corpus::{answered, case};
+use crate::stream::bytes;
 use std::io::{Read, Write};
 use std::process::{Child, Command, Stdio};
-use std::sync::atomic::{AtomicU64, AtomicUsize, Ordering::Relaxed};
+use std::sync::atomic::{AtomicU64, Ordering::Relaxed};
 use std::sync::{Arc, Mutex};
 use std::thread;
 use std::time::{Duration, Instant};
 
+/// How a program is compared with the Rust.
+#[derive(Clone, Copy, PartialEq)]
+pub enum Kind {
+    /// In linkrun's place, by what it prints.
+    Prints,
+    /// In replay's place, by what it says of the Rust's answers with states and draws.
+    Judges,
+}
+
 /// A program and its arguments.
-pub struct Program<'a>(pub &'a [String]);
+pub struct Program<'a> {
+    pub command: &'a [String],
+    pub kind: Kind,
+}
 
 /// What a program printed, and whether it came to an end by itself.
 #[derive(PartialEq)]
@@ -17,12 +32,26 @@ pub struct Printed {
     pub ended: bool,
 }
 
-/// How long a program may take on one input.
+/// What was compared.
+#[derive(Clone, Copy, Debug, Default, PartialEq)]
+pub struct Tally {
+    pub inputs: u64,
+    /// Calls of these inputs, the openings among them.
+    pub calls: u64,
+    /// Inputs that have no place in the corpus, and so are not among those compared.
+    pub left_out: u64,
+}
+
+/// How long a program may take at once.
 const PATIENCE: Duration = Duration::from_secs(20);
 
+/// Inputs that replay is handed at once.
+const AT_ONCE: u64 = 200;
+
 impl Program<'_> {
-    pub fn run(&self, input: &[u8]) -> Printed {
-        let (name, arguments) = self.0.split_first().expect("a program");
+    /// Runs the program on these bytes.
+    fn run(&self, input: &[u8]) -> Printed {
+        let (name, arguments) = self.command.split_first().expect("a program");
         let mut child = Command::new(name)
             .args(arguments)
             .stdin(Stdio::piped())
@@ -52,41 +81,154 @@ impl Program<'_> {
         Printed { text: done, ended }
     }
 
-    /// Whether the program's run of an input is another than the Rust's.
+    /// What the program prints of an input.
+    pub fn says(&self, input: &[u8]) -> Printed {
+        match self.kind {
+            Kind::Prints => self.run(input),
+            Kind::Judges => {
+                let words = answered(input).map(|(words, answers)| case(&words, &answers));
+                self.run(&bytes(&words.unwrap_or_default()))
+            }
+        }
+    }
+
+    /// Whether the program differs from the Rust on an input.
     pub fn differs(&self, input: &[u8]) -> bool {
+        self.compared(&[input.to_vec()]).is_none()
+    }
+
+    /// How many inputs are compared in one run.
+    fn at_once(&self) -> u64 {
+        match self.kind {
+            Kind::Prints => 1,
+            Kind::Judges => AT_ONCE,
+        }
+    }
+
+    /// What was compared by these inputs; none where any of them differs.
+    fn compared(&self, inputs: &[Vec<u8>]) -> Option<Tally> {
+        match self.kind {
+            Kind::Prints => inputs.iter().map(|input| self.compared_print(input)).sum(),
+            Kind::Judges => {
+                let whole: Vec<_> = inputs.iter().filter_map(|input| answered(input)).collect();
+                let tally = self.judged(&whole)?;
+                Some(Tally { left_out: (inputs.len() - whole.len()) as u64, ..tally })
+            }
+        }
+    }
+
+    fn compared_print(&self, input: &[u8]) -> Option<Tally> {
         let printed = self.run(input);
-        !printed.ended || printed.text != crate::run(input, false)
+        let answers = crate::answers(input, false);
+        let same = printed.ended && printed.text == crate::answer::print(&answers, false);
+        same.then_some(Tally { inputs: 1, calls: answers.len() as u64, left_out: 0 })
+    }
+
+    /// What was compared by these cases; none where the program finds a difference, or says anything
+    /// but that all of them agree.
+    fn judged(&self, cases: &[(Vec<u64>, Vec<Answer>)]) -> Option<Tally> {
+        let words: Vec<u64> = cases.iter().flat_map(|(input, given)| case(input, given)).collect();
+        let printed = self.run(&bytes(&words));
+        let inputs = cases.len() as u64;
+        let calls = cases.iter().map(|(_, given)| given.len() as u64).sum();
+        let agree = printed.ended && all_agree(&printed.text, inputs, calls);
+        agree.then_some(Tally { inputs, calls, left_out: 0 })
+    }
+
+    /// What a program that judges does not notice where an answer is not the Rust's: it is handed the
+    /// worked example with another refusal, action, state or number of draws.
+    pub fn unnoticed(&self) -> Option<&'static str> {
+        let (input, given) = answered(&crate::cases::case("worked")).expect("whole words");
+        let passes = |(_, damage): &&(&str, fn(&mut Answer))| {
+            let mut damaged = given.clone();
+            damage(damaged.last_mut().expect("a call"));
+            self.judged(&[(input.clone(), damaged)]).is_some()
+        };
+        DAMAGES.iter().find(passes).map(|(what, _)| *what)
     }
 }
 
-/// The first number below `count` whose input differs, tried by `threads` at once, and how many were tried.
+/// What a judge has to look at, and a change of an answer that shows whether it does.
+const DAMAGES: [(&str, fn(&mut Answer)); 5] = [
+    ("a refusal", |a| a.refusal = 16),
+    ("an action", |a| a.rows[0][4] += 1),
+    ("the state", |a| *a.state.last_mut().expect("a machine") += 1),
+    ("the chance draws taken", |a| a.chances += 1),
+    ("the value draws taken", |a| a.values += 1),
+];
+
+/// Whether replay's text says that so many cases and calls agree, and nothing else.
+fn all_agree(text: &[u8], cases: u64, calls: u64) -> bool {
+    let text = String::from_utf8_lossy(text);
+    let damaged = text.lines().find_map(|line| line.strip_prefix("damaged calls ")?.parse().ok());
+    damaged.is_some_and(|damaged: u64| {
+        let agreed = calls + damaged;
+        let head = format!("cases {cases}\ncalls {calls}\ndamaged calls {damaged}\n");
+        text == format!("{head}agreed {agreed}\ndiffered 0\n")
+    })
+}
+
+impl std::ops::AddAssign for Tally {
+    fn add_assign(&mut self, other: Tally) {
+        self.inputs += other.inputs;
+        self.calls += other.calls;
+        self.left_out += other.left_out;
+    }
+}
+
+impl std::iter::Sum for Tally {
+    fn sum<I: Iterator<Item = Tally>>(tallies: I) -> Tally {
+        tallies.fold(Tally::default(), |mut sum, tally| {
+            sum += tally;
+            sum
+        })
+    }
+}
+
+/// The first number below `count` whose input differs, tried by `threads` at once, and what was
+/// compared of those that do not.
 pub fn first_difference(
     program: &Program,
     count: u64,
     threads: usize,
     input: impl Fn(u64) -> Vec<u8> + Sync,
-) -> (Option<u64>, u64) {
+) -> (Option<u64>, Tally) {
     let (next, found) = (AtomicU64::new(0), AtomicU64::new(count));
-    let (tried, begun) = (AtomicUsize::new(0), Instant::now());
+    let (sum, begun) = (Mutex::new(Tally::default()), Instant::now());
     thread::scope(|scope| {
         for _ in 0..threads {
             scope.spawn(|| {
                 loop {
-                    let k = next.fetch_add(1, Relaxed);
-                    if k >= found.load(Relaxed) {
+                    let from = next.fetch_add(program.at_once(), Relaxed);
+                    if from >= found.load(Relaxed) {
                         return;
                     }
-                    if program.differs(&input(k)) {
-                        found.fetch_min(k, Relaxed);
-                    }
-                    let tried = tried.fetch_add(1, Relaxed) + 1;
-                    if tried.is_multiple_of(10_000) {
-                        eprintln!("{tried} inputs in {} s", begun.elapsed().as_secs());
+                    let numbers = from..count.min(from + program.at_once());
+                    let inputs: Vec<Vec<u8>> = numbers.map(&input).collect();
+                    match program.compared(&inputs) {
+                        Some(tally) => add(&mut sum.lock().expect("the sum"), tally, begun),
+                        None => {
+                            found.fetch_min(from + first_of(program, &inputs), Relaxed);
+                        }
                     }
                 }
             });
         }
     });
     let found = found.into_inner();
-    ((found < count).then_some(found), tried.into_inner() as u64)
+    ((found < count).then_some(found), sum.into_inner().expect("the sum"))
+}
+
+/// Adds to the sum, and says now and then how far it is.
+fn add(sum: &mut Tally, tally: Tally, begun: Instant) {
+    let before = sum.inputs / 10_000;
+    *sum += tally;
+    if sum.inputs / 10_000 > before {
+        eprintln!("{} inputs in {} s", sum.inputs, begun.elapsed().as_secs());
+    }
+}
+
+/// The place of the first of these inputs that differs by itself; 0 where they do so together only.
+fn first_of(program: &Program, inputs: &[Vec<u8>]) -> u64 {
+    inputs.iter().position(|input| program.differs(input)).unwrap_or(0) as u64
 }

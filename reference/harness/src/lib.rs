@@ -4,6 +4,7 @@
 pub mod answer;
 pub mod cases;
 pub mod compare;
+pub mod corpus;
 pub mod engine;
 pub mod generate;
 pub mod random;

@@ -2,7 +2,8 @@
 //! directory of inputs, or the corpus for replay (a file without an ending). The last line says how many are missing; exits with 1
 //! where any is.
 
-use cover::{Counts, add, corpus, counts_of, table};
+use cover::{Counts, add, counts_of, table};
+use harness::corpus;
 use std::path::{Path, PathBuf};
 
 fn files_of(path: &Path) -> Vec<PathBuf> {

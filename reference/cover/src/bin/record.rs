@@ -2,7 +2,7 @@
 //! for linkrun. The same sources give the same bytes.
 
 use cover::choose::{Chosen, corpus};
-use cover::corpus::case;
+use harness::corpus::case;
 use harness::{answers, run, stream};
 use std::path::Path;
 

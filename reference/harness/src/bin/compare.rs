@@ -1,16 +1,18 @@
-//! compare [--seeds A..B] [--family F] [--threads N] [--inputs DIR] PROGRAM [ARGUMENT ..]
+//! compare [--states] [--seeds A..B] [--family F] [--threads N] [--inputs DIR] PROGRAM [ARGUMENT ..]
 //!
 //! Runs PROGRAM once for each seed from A up to B (of every family in turn, or of F), or for each file
-//! *.in of DIR, and compares what it prints with the Rust's run. The first input on which they differ
-//! is cut down, shown, and written to differs.in. Exits with 1 where they differ.
+//! *.in of DIR, and compares what it prints with the Rust's run. With --states PROGRAM is replay: it is
+//! handed the inputs with the Rust's answers, states and draws, and has to say that all of them agree;
+//! before that it has to notice damaged ones. The first input on which they differ is named, cut down,
+//! shown, and written to differs.in. Exits with 1 where they differ.
 
-use harness::compare::{Program, first_difference};
+use harness::compare::{Kind, Program, Tally, first_difference};
 use harness::generate::{FAMILIES, family_of, input};
 use harness::shrink::shrink;
 
 fn usage() -> ! {
     eprintln!(
-        "compare [--seeds A..B] [--family F] [--threads N] [--inputs DIR] PROGRAM [ARGUMENT ..]"
+        "compare [--states] [--seeds A..B] [--family F] [--threads N] [--inputs DIR] PROGRAM [ARGUMENT ..]"
     );
     std::process::exit(2);
 }
@@ -59,10 +61,42 @@ fn files_of(dir: &str) -> Vec<std::path::PathBuf> {
     files
 }
 
+/// What was compared, in words.
+fn words(kind: Kind, tally: Tally) -> String {
+    let Tally { inputs, calls, left_out } = tally;
+    let what = match kind {
+        Kind::Prints => "what is printed",
+        Kind::Judges => "actions, states and draws",
+    };
+    let left_out = match left_out {
+        0 => String::new(),
+        some => format!(" ({some} more are no whole words or too long for a case)"),
+    };
+    format!("{inputs} inputs{left_out}, {calls} calls, compared by {what}")
+}
+
+/// Cuts an input on which the program differs down, shows it, and writes it to differs.in.
+fn show_difference(program: &Program, bytes: &[u8]) {
+    let small = shrink(bytes, 4000, &mut |input| program.differs(input));
+    println!("{} bytes cut down to {}", bytes.len(), small.len());
+    print!("{}", harness::show::show(&small));
+    println!("expected, with the state:\n{}", String::from_utf8_lossy(&harness::run(&small, true)));
+    let printed = program.says(&small);
+    let end = if printed.ended { "" } else { " (it did not end by itself)" };
+    println!("printed by the program{end}:\n{}", String::from_utf8_lossy(&printed.text));
+    std::fs::write("differs.in", &small).expect("differs.in");
+    println!("written to differs.in");
+}
+
 fn main() {
     let mut arguments = std::env::args().skip(1).peekable();
     let (mut range, mut family, mut threads, mut files) = ((0, 100_000), None, 2, None);
+    let mut kind = Kind::Prints;
     while let Some(option) = arguments.next_if(|a| a.starts_with("--")) {
+        if option == "--states" {
+            kind = Kind::Judges;
+            continue;
+        }
         let value = arguments.next().unwrap_or_else(|| usage());
         match option.as_str() {
             "--seeds" => range = seeds(&value).unwrap_or_else(|| usage()),
@@ -76,31 +110,26 @@ fn main() {
     if command.is_empty() {
         usage();
     }
-    let program = Program(&command);
+    let program = Program { command: &command, kind };
+    if kind == Kind::Judges
+        && let Some(what) = program.unnoticed()
+    {
+        println!("{}: {what} was not the Rust's, and it did not notice", command[0]);
+        std::process::exit(1);
+    }
     let inputs = match files {
         Some(files) => Inputs::Files(files),
         None => Inputs::Seeds { from: range.0, count: range.1 - range.0, family },
     };
     let begun = std::time::Instant::now();
-    let (found, tried) = first_difference(&program, inputs.count(), threads, |k| inputs.get(k).1);
+    let (found, tally) = first_difference(&program, inputs.count(), threads, |k| inputs.get(k).1);
     let seconds = begun.elapsed().as_secs_f64();
     let Some(k) = found else {
-        println!("{tried} inputs, 0 differ ({seconds:.1} s)");
+        println!("{}: 0 differ ({seconds:.1} s)", words(kind, tally));
         return;
     };
     let (name, bytes) = inputs.get(k);
-    let small = shrink(&bytes, 4000, &mut |input| program.differs(input));
-    println!(
-        "{name}: differs ({tried} inputs tried); {} bytes cut down to {}",
-        bytes.len(),
-        small.len()
-    );
-    print!("{}", harness::show::show(&small));
-    println!("expected, with the state:\n{}", String::from_utf8_lossy(&harness::run(&small, true)));
-    let printed = program.run(&small);
-    let end = if printed.ended { "" } else { " (it did not end by itself)" };
-    println!("printed by the program{end}:\n{}", String::from_utf8_lossy(&printed.text));
-    std::fs::write("differs.in", &small).expect("differs.in");
-    println!("written to differs.in");
+    println!("{name}: differs ({} inputs agreed)", tally.inputs);
+    show_difference(&program, &bytes);
     std::process::exit(1);
 }

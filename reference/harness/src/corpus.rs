@@ -5,9 +5,18 @@
 //! actions, the chance and value draws taken, the actions' rows of 6 words, the number of the state's
 //! words and these words.
 
-use harness::answer::Answer;
+use crate::answer::Answer;
+use crate::answers;
+use crate::stream::{WORDS, words};
 
 pub const LINKRUN: u64 = 1;
+
+/// An input and the Rust's answers to it with states and draws. None for an input that the corpus has no place for:
+/// one that is cut within a word, or too long.
+pub fn answered(input: &[u8]) -> Option<(Vec<u64>, Vec<Answer>)> {
+    let words = words(input).filter(|words| words.len() <= WORDS)?;
+    Some((words, answers(input, true)))
+}
 
 /// A case of kind 1 from an input of whole words.
 pub fn case(input: &[u64], answers: &[Answer]) -> Vec<u64> {
