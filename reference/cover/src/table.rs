@@ -1,6 +1,7 @@
 //! The names of the coverage table, by group. None of them may be missing from the corpus. 18 and 20
 //! are not among them: linkrun's input does not reach them.
 
+use maybenot::event::Event;
 use std::sync::OnceLock;
 
 type Names = Vec<(&'static str, String)>;
@@ -35,7 +36,7 @@ pub fn names() -> &'static Names {
             n.push(("actions", format!("UpdateTimer, flags {flags}, duration 0")));
         }
         plain(&mut n, "actions", ACTIONS);
-        n.extend((0..13).map(|e| ("events", format!("heard: {}", harness::show::event_name(e)))));
+        n.extend(Event::iter().map(|event| ("events", format!("heard: {event}"))));
         plain(&mut n, "events", EVENTS);
         plain(&mut n, "transitions", TRANSITIONS);
         plain(&mut n, "state limits", LIMITS);

@@ -1,33 +1,17 @@
 //! An input in words that a person reads.
 
+use crate::engine::event_of;
 use crate::stream::*;
-use std::fmt::Write;
+use maybenot::event::Event;
+use std::fmt::{Display, Write};
 
-const EVENTS: [&str; 13] = [
-    "NormalRecv",
-    "PaddingRecv",
-    "TunnelRecv",
-    "NormalSent",
-    "PaddingSent",
-    "TunnelSent",
-    "BlockingBegin",
-    "BlockingEnd",
-    "LimitReached",
-    "CounterZero",
-    "TimerBegin",
-    "TimerEnd",
-    "Signal",
-];
+const ACTIONS: [&str; 5] = ["no action", "Cancel", "SendPadding", "BlockOutgoing", "UpdateTimer"];
+const OPERATIONS: [&str; 4] = ["no counter", "Increment", "Decrement", "Set"];
 
-/// The names of the ten kinds that a sender reports.
-pub const KINDS: [&str; 10] = [
-    EVENTS[0], EVENTS[1], EVENTS[2], EVENTS[3], EVENTS[4], EVENTS[5], EVENTS[6], EVENTS[7],
-    EVENTS[10], EVENTS[11],
-];
-
-/// The name of an event of the framework.
-pub fn event_name(event: usize) -> &'static str {
-    EVENTS[event]
+/// The event of the framework that a kind 0 to 9 reports.
+fn reported(kind: u64) -> Option<&'static Event> {
+    let event = event_of([kind, 0])?;
+    Event::iter().find(|known| event.is_event(**known))
 }
 
 fn dist(words: &[u64]) -> String {
@@ -42,8 +26,8 @@ fn dist(words: &[u64]) -> String {
     }
 }
 
-fn name(code: u64, names: &[&str]) -> String {
-    names.get(code as usize).map_or(format!("code {code}"), |name| name.to_string())
+fn name(code: u64, name: Option<impl Display>) -> String {
+    name.map_or(format!("code {code}"), |name| name.to_string())
 }
 
 fn target(word: u64) -> String {
@@ -81,8 +65,7 @@ pub fn show(bytes: &[u8]) -> String {
         .unwrap();
     }
     for (k, row) in s.states.iter().enumerate() {
-        let action =
-            name(row[0], &["no action", "Cancel", "SendPadding", "BlockOutgoing", "UpdateTimer"]);
+        let action = name(row[0], ACTIONS.get(row[0] as usize));
         writeln!(text, "state {k}: {action}, flags {}, timer {}", row[FLAGS], row[TIMER]).unwrap();
         for (what, at) in [("timeout", TIMEOUT), ("duration", DURATION), ("limit", LIMIT)] {
             if row[at..at + 5] != [0; 5] {
@@ -91,7 +74,7 @@ pub fn show(bytes: &[u8]) -> String {
         }
         for (what, at) in [("A", COUNTER_A), ("B", COUNTER_B)] {
             if row[at..at + 7] != [0; 7] {
-                let operation = name(row[at], &["no counter", "Increment", "Decrement", "Set"]);
+                let operation = name(row[at], OPERATIONS.get(row[at] as usize));
                 writeln!(
                     text,
                     "  {what}: {operation}, copy {}, {}",
@@ -101,10 +84,11 @@ pub fn show(bytes: &[u8]) -> String {
                 .unwrap();
             }
         }
-        for event in 0..13 {
-            let [first, count] = [row[PAIRS + 2 * event], row[PAIRS + 2 * event + 1]];
+        for event in Event::iter() {
+            let at = PAIRS + 2 * event.to_usize();
+            let [first, count] = [row[at], row[at + 1]];
             if [first, count] != [0, 0] {
-                writeln!(text, "  {}: rows {first} + {count}", EVENTS[event]).unwrap();
+                writeln!(text, "  {event}: rows {first} + {count}").unwrap();
             }
         }
     }
@@ -119,8 +103,8 @@ pub fn show(bytes: &[u8]) -> String {
     let values: Vec<f64> = s.values.iter().map(|v| f64::from_bits(*v)).collect();
     writeln!(text, "chance draws {chances:?}\nvalue draws {values:?}").unwrap();
     for (k, call) in s.calls.iter().enumerate() {
-        let events: Vec<String> =
-            call.events.iter().map(|[kind, m]| format!("{} {m}", name(*kind, &KINDS))).collect();
+        let shown = |[kind, m]: &[u64; 2]| format!("{} {m}", name(*kind, reported(*kind)));
+        let events: Vec<String> = call.events.iter().map(shown).collect();
         writeln!(text, "call {} at {}: {}", k + 1, call.time, events.join(", ")).unwrap();
     }
     text

@@ -1,6 +1,7 @@
 //! What the probes count. A name is counted once for each time that its place is passed.
 
 use crate::constants::{STATE_END, STATE_SIGNAL};
+use crate::event::Event;
 use std::cell::{Cell, RefCell};
 use std::collections::BTreeMap;
 
@@ -32,24 +33,8 @@ pub fn call() {
     DEPTH.set(0);
 }
 
-const EVENTS: [&str; 13] = [
-    "NormalRecv",
-    "PaddingRecv",
-    "TunnelRecv",
-    "NormalSent",
-    "PaddingSent",
-    "TunnelSent",
-    "BlockingBegin",
-    "BlockingEnd",
-    "LimitReached",
-    "CounterZero",
-    "TimerBegin",
-    "TimerEnd",
-    "Signal",
-];
-
-pub fn heard(event: usize, ended: bool) {
-    hit(&format!("heard: {}", EVENTS[event]));
+pub fn heard(event: Event, ended: bool) {
+    hit(&format!("heard: {event}"));
     hit_if(ended, "heard by an ended machine");
 }
 

@@ -1,7 +1,7 @@
 //! Runs of the Rust on linkrun's input. This directory is compiled against the unchanged sources here
 //! and against the probed ones in `cover`.
 
-mod clock;
+pub mod clock;
 mod state;
 mod tables;
 
@@ -106,7 +106,7 @@ fn row_of(action: &TriggerAction<Micros>) -> [u64; 6] {
 }
 
 /// The event of a kind 0 to 9.
-fn event_of([kind, machine]: [u64; 2]) -> Option<TriggerEvent> {
+pub fn event_of([kind, machine]: [u64; 2]) -> Option<TriggerEvent> {
     let machine = MachineId::from_raw(machine as usize);
     Some(match kind {
         0 => TriggerEvent::NormalRecv,
