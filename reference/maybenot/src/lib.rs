@@ -1,22 +1,6 @@
-//! The Rust of the framework, unchanged: this file stands for the lib.rs and error.rs that are not
-//! among the sources, and gives the stand-ins the names of the crates that the sources use.
+//! The Rust of the framework, unchanged: this file and names.rs stand for the lib.rs that is not among the
+//! sources, error.rs for the error.rs that is not.
 
-extern crate standins as base64;
-extern crate standins as bincode;
-extern crate standins as enum_map;
-extern crate standins as flate2;
-extern crate standins as rand;
-extern crate standins as rand_core;
-extern crate standins as rand_distr;
-extern crate standins as serde;
-extern crate standins as sha256;
-
-include!(concat!(env!("OUT_DIR"), "/modules.rs"));
-
-pub use action::{Timer, TriggerAction};
-pub use error::Error;
-pub use event::TriggerEvent;
-pub use framework::{Framework, MachineId};
-pub use machine::Machine;
+include!("../../build/names.rs");
 
 mod error;
