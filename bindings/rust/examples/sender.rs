@@ -1,5 +1,5 @@
-//! A sender in simulated time: two machines, normal packets at random, timers, and draws from a seeded
-//! generator of its own. Prints a line for each action and, at the end, the budgets used.
+//! A sender in simulated time: two machines, normal packets at random, timers, and draws from a seed.
+//! Prints a line for each action and, at the end, the budgets used.
 //!
 //! `cargo run --example sender -- [seed] [milliseconds]`
 
@@ -13,6 +13,7 @@ use maybenot_link::{
     TriggerEvent,
 };
 use std::error::Error;
+use std::hash::{BuildHasher, BuildHasherDefault, DefaultHasher};
 
 /// The framework's own limits: padding of all packets, blocking of all time.
 const MAX_PADDING_FRAC: f64 = 0.5;
@@ -70,15 +71,18 @@ fn blocker() -> Result<Machine, Invalid> {
     Machine::new(0, 0.0, 10_000, 0.2, vec![starts, sets, counts, holds])
 }
 
-/// The sender's generator, xorshift64*.
-struct Source(u64);
+/// The sender's random numbers: here std's hash of a seed and a count, so that nothing else is needed.
+/// A real sender asks its own generator.
+#[derive(Hash)]
+struct Source {
+    seed: u64,
+    count: u64,
+}
 
 impl Source {
     fn word(&mut self) -> u64 {
-        self.0 ^= self.0 >> 12;
-        self.0 ^= self.0 << 25;
-        self.0 ^= self.0 >> 27;
-        self.0.wrapping_mul(0x2545_f491_4f6c_dd1d)
+        self.count += 1;
+        BuildHasherDefault::<DefaultHasher>::default().hash_one(&*self)
     }
 
     /// From 0 to below 1.
@@ -152,7 +156,7 @@ struct Sender {
 
 impl Sender {
     fn open(machines: &[Machine], seed: u64) -> Result<Sender, Box<dyn Error>> {
-        let mut source = Source(seed.wrapping_mul(0x9e37_79b9_7f4a_7c15) | 1);
+        let mut source = Source { seed, count: 0 };
         let tables = Tables::new(machines)?;
         let framework =
             Framework::open(tables, MAX_PADDING_FRAC, MAX_BLOCKING_FRAC, 0, &mut source)?;

@@ -3,7 +3,7 @@
 
 mod common;
 
-use common::{any_dist, events, machines, Random};
+use common::{any_dist, events, machines, Random, Source};
 use maybenot_link::action::Action;
 use maybenot_link::dist::{Dist, DistType};
 use maybenot_link::event::Event;
@@ -44,7 +44,8 @@ fn a_source_gives_the_run_of_the_same_tapes() {
         let count = random.below(4);
         let states = 1 + random.below(5);
         let tables = Tables::new(&machines(&mut random, count, states, &mut any_dist)).unwrap();
-        let mut source = random.clone();
+        let mut own = random.clone();
+        let mut source = Source(&mut own);
         let mut recorded = Recorded::new(&mut source);
         let mut framework = Framework::open(&tables, 0.5, 0.5, 0, &mut recorded).unwrap();
         let (mut twin, used) =

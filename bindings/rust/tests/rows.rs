@@ -3,7 +3,7 @@
 
 mod common;
 
-use common::{any_dist, machines, Random};
+use common::{any_dist, machines, Random, Source};
 use maybenot_link::action::Action;
 use maybenot_link::counter::{Counter, Operation};
 use maybenot_link::dist::{Dist, DistType};
@@ -110,7 +110,7 @@ fn built_tables_are_accepted() {
     for _ in 0..200 {
         let built = machines(&mut random, 3, 4, &mut any_dist);
         let tables = Tables::new(&built).unwrap();
-        Framework::open(&tables, 0.5, 0.5, 7, &mut random).unwrap();
+        Framework::open(&tables, 0.5, 0.5, 7, Source(&mut random)).unwrap();
     }
 }
 
@@ -159,7 +159,7 @@ fn the_builder_refuses_what_the_library_refuses() {
         let spoilt = random.below(3);
         spoil(&mut random, &mut built[spoilt]);
         let tables = Tables::unchecked(&built);
-        let said = Framework::open(&tables, 0.0, 0.0, 0, &mut random).map(|_| ());
+        let said = Framework::open(&tables, 0.0, 0.0, 0, Source(&mut random)).map(|_| ());
         match Tables::new(&built) {
             Ok(_) => assert_eq!(said, Ok(())),
             Err(invalid) => {

@@ -7,7 +7,6 @@ pub mod compare;
 pub mod corpus;
 pub mod engine;
 pub mod generate;
-pub mod random;
 pub mod show;
 pub mod shrink;
 pub mod stream;

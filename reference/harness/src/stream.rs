@@ -27,7 +27,7 @@ pub struct Call {
     pub events: Vec<[u64; 2]>,
 }
 
-#[derive(Clone, Debug, PartialEq)]
+#[derive(Clone, Debug, Default, PartialEq)]
 pub struct Stream {
     pub max_padding_frac: u64,
     pub max_blocking_frac: u64,

@@ -1,6 +1,6 @@
 //! The two tapes: recorded draws, handed to the Rust in order and counted.
 
-use crate::random::Random;
+use random::Random;
 use standins::RngCore;
 use std::cell::{Cell, RefCell};
 use std::fmt;

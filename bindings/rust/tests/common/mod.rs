@@ -1,4 +1,4 @@
-//! What the tests share: a generator of random numbers, machines and events.
+//! What the tests share: draws, machines and events by a generator of random numbers.
 #![allow(dead_code)]
 
 use maybenot_link::action::Action;
@@ -8,55 +8,31 @@ use maybenot_link::dist::{Dist, DistType};
 use maybenot_link::event::Event;
 use maybenot_link::state::{State, Trans};
 use maybenot_link::{Draws, Machine, MachineId, Timer, TriggerEvent};
+pub use random::Plain as Random;
 
-/// xorshift64*.
-#[derive(Clone)]
-pub struct Random(u64);
+/// The generator as a source of draws.
+pub struct Source<'a>(pub &'a mut Random);
 
-impl Random {
-    pub fn new(seed: u64) -> Random {
-        Random(seed.wrapping_mul(0x9e37_79b9_7f4a_7c15) | 1)
-    }
-
-    pub fn word(&mut self) -> u64 {
-        self.0 ^= self.0 >> 12;
-        self.0 ^= self.0 << 25;
-        self.0 ^= self.0 >> 27;
-        self.0.wrapping_mul(0x2545_f491_4f6c_dd1d)
-    }
-
-    pub fn below(&mut self, n: usize) -> usize {
-        (self.word() >> 11) as usize % n
-    }
-
-    pub fn one_in(&mut self, n: usize) -> bool {
-        self.below(n) == 0
-    }
-
-    pub fn unit(&mut self) -> f64 {
-        (self.word() >> 11) as f64 / (1u64 << 53) as f64
-    }
-}
-
-impl Draws for Random {
+impl Draws for Source<'_> {
     fn chance(&mut self) -> f32 {
-        (self.word() >> 40) as f32 / (1u32 << 24) as f32
+        self.0.chance()
     }
 
     fn value(&mut self, dist: &DistType) -> f64 {
+        let Source(random) = self;
         match *dist {
             DistType::Uniform { low, high } => {
-                let drawn = low + (high - low) * self.unit();
+                let drawn = low + (high - low) * random.unit();
                 if drawn < high {
                     drawn
                 } else {
                     low
                 }
             }
-            _ if self.one_in(20) => {
-                [f64::NAN, f64::INFINITY, f64::NEG_INFINITY, 1e308, -1e308][self.below(5)]
+            _ if random.one_in(20) => {
+                [f64::NAN, f64::INFINITY, f64::NEG_INFINITY, 1e308, -1e308][random.below(5)]
             }
-            _ => 20.0 * self.unit() - 3.0,
+            _ => 20.0 * random.unit() - 3.0,
         }
     }
 }

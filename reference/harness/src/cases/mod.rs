@@ -109,17 +109,7 @@ pub struct Input(pub Stream);
 
 impl Input {
     fn new() -> Input {
-        Input(Stream {
-            max_padding_frac: 0,
-            max_blocking_frac: 0,
-            time: 0,
-            machines: Vec::new(),
-            states: Vec::new(),
-            transitions: Vec::new(),
-            chances: Vec::new(),
-            values: Vec::new(),
-            calls: Vec::new(),
-        })
+        Input(Stream::default())
     }
 
     fn fractions(mut self, padding: f64, blocking: f64) -> Input {

@@ -4,6 +4,9 @@ use super::*;
 
 /// Sentences about the steps.
 pub fn steps() -> Inputs {
+    let set_a =
+        |value| State::none().counter(COUNTER_A, SET, value).to(NORMAL_RECV, 0).to(NORMAL_SENT, 1);
+    let set_both = |a, b| set_a(a).counter(COUNTER_B, SET, b);
     let zero_a = |operation, value| State::pad(1.0).counter(COUNTER_A, operation, value);
     let blocks = [State::block(1.0, 2.0).to(NORMAL_RECV, 0)];
     // blocked since 8, two before the opening, until 12: 0/0, 2/0, 4/2, 4/8, 4/9
@@ -145,31 +148,17 @@ pub fn steps() -> Inputs {
                 .call(2, &[padded(0)])
         }),
         ("A = 2 minus 5 gives CounterZero", {
-            let states = [
-                State::none().counter(COUNTER_A, SET, 2.0).to(NORMAL_RECV, 0).to(NORMAL_SENT, 1),
-                zero_a(DECREMENT, 5.0).to(COUNTER_ZERO, 2),
-                State::pad(9.0),
-            ];
+            let states = [set_a(2.0), zero_a(DECREMENT, 5.0).to(COUNTER_ZERO, 2), State::pad(9.0)];
             Input::new().machine(&states).chances(&[0.5; 3]).call(1, &[RECV]).call(2, &[SENT])
         }),
         ("A = 3, B = 4, both Set by copy", {
-            let states = [
-                State::none()
-                    .counter(COUNTER_A, SET, 3.0)
-                    .counter(COUNTER_B, SET, 4.0)
-                    .to(NORMAL_RECV, 0)
-                    .to(NORMAL_SENT, 1),
-                State::none().copy(COUNTER_A, SET).copy(COUNTER_B, SET),
-            ];
+            let states =
+                [set_both(3.0, 4.0), State::none().copy(COUNTER_A, SET).copy(COUNTER_B, SET)];
             Input::new().machine(&states).chances(&[0.5; 2]).call(1, &[RECV]).call(2, &[SENT])
         }),
         ("A and B at zero in one update give one CounterZero and use up both", {
             let states = [
-                State::none()
-                    .counter(COUNTER_A, SET, 1.0)
-                    .counter(COUNTER_B, SET, 1.0)
-                    .to(NORMAL_RECV, 0)
-                    .to(NORMAL_SENT, 1),
+                set_both(1.0, 1.0),
                 State::none()
                     .word(COUNTER_A, DECREMENT)
                     .word(COUNTER_B, DECREMENT)
@@ -181,11 +170,7 @@ pub fn steps() -> Inputs {
         }),
         ("B within A, and over machines each reports once a batch", {
             let states = [
-                State::none()
-                    .counter(COUNTER_A, SET, 1.0)
-                    .counter(COUNTER_B, SET, 1.0)
-                    .to(NORMAL_RECV, 0)
-                    .to(NORMAL_SENT, 1),
+                set_both(1.0, 1.0),
                 State::pad(1.0).word(COUNTER_A, DECREMENT).to(COUNTER_ZERO, 2),
                 State::pad(2.0).word(COUNTER_B, DECREMENT).to(COUNTER_ZERO, 3),
                 State::pad(3.0).counter(COUNTER_A, INCREMENT, 1.9e19),
@@ -198,16 +183,14 @@ pub fn steps() -> Inputs {
                 .call(2, &[SENT])
         }),
         ("ended by CounterZero, the outer action is returned", {
-            let states = [
-                State::none().counter(COUNTER_A, SET, 1.0).to(NORMAL_RECV, 0).to(NORMAL_SENT, 1),
-                State::pad(6.0).word(COUNTER_A, DECREMENT).to(COUNTER_ZERO, END),
-            ];
+            let states =
+                [set_a(1.0), State::pad(6.0).word(COUNTER_A, DECREMENT).to(COUNTER_ZERO, END)];
             Input::new().machine(&states).chances(&[0.5; 3]).call(1, &[RECV]).call(2, &[SENT])
         }),
         ("value draws: limit, A, B, CounterZero's, timeout, duration", {
             let drawn = outside(0.0, 0.0);
             let states = [
-                State::none().counter(COUNTER_A, SET, 1.0).to(NORMAL_RECV, 0).to(NORMAL_SENT, 1),
+                set_a(1.0),
                 State::action(3)
                     .dist(TIMEOUT, drawn)
                     .dist(DURATION, drawn)

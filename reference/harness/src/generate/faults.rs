@@ -3,8 +3,8 @@
 use super::senders::{Sending, play};
 use super::tables::{Style, valid};
 use super::{cut_to_size, played};
-use crate::random::Random;
 use crate::stream::*;
+use random::Random;
 
 /// A tape cut short, or a draw on it out of range.
 pub fn tapes(random: &mut Random) -> Stream {
@@ -194,31 +194,26 @@ fn beyond(random: &mut Random, rows: u64, pair: &mut [u64], most: u64) {
     pair[1] = count.min(most);
 }
 
+/// An action of this code where the state has none of these, with this kind of the distribution at a place.
+fn make_action(state: &mut [u64; STATE], known: &[u64], code: u64, (at, kind): (usize, u64)) {
+    if !known.contains(&state[0]) {
+        (state[0], state[FLAGS], state[at]) = (code, 0, kind);
+    }
+}
+
 /// A distribution that the state's action or counters use, after making sure that there is one.
 fn used_dist(random: &mut Random, state: &mut [u64; STATE]) -> usize {
     match random.below(5) {
         0 => {
-            if !matches!(state[0], 2 | 3) {
-                state[0] = 2;
-                state[FLAGS] = 0;
-                state[LIMIT] = 0;
-            }
+            make_action(state, &[2, 3], 2, (LIMIT, 0));
             TIMEOUT
         }
         1 => {
-            if !matches!(state[0], 3 | 4) {
-                state[0] = 4;
-                state[FLAGS] = 0;
-                state[LIMIT] = 0;
-            }
+            make_action(state, &[3, 4], 4, (LIMIT, 0));
             DURATION
         }
         2 => {
-            if !matches!(state[0], 2..=4) {
-                state[0] = 2;
-                state[FLAGS] = 0;
-                state[TIMEOUT] = 2;
-            }
+            make_action(state, &[2, 3, 4], 2, (TIMEOUT, 2));
             LIMIT
         }
         more => {

@@ -4,8 +4,8 @@ mod faults;
 mod senders;
 mod tables;
 
-use crate::random::Random;
 use crate::stream::{Stream, WORDS};
+use random::Random;
 use senders::Sending;
 use tables::Style;
 

@@ -2,9 +2,9 @@
 
 use super::tables::{Style, valid};
 use crate::engine::Session;
-use crate::random::Random;
 use crate::stream::*;
 use crate::tape::Tape;
+use random::Random;
 
 /// How a sender behaves; shares are of 100.
 pub struct Sending {

@@ -1,7 +1,7 @@
 //! Valid tables: machines, states and transitions.
 
-use crate::random::Random;
 use crate::stream::*;
+use random::Random;
 
 /// What tables are made of; shares are of 100.
 #[derive(Clone)]
@@ -117,23 +117,13 @@ struct Maker<'a> {
 
 /// Tables that the opening accepts, with an opening time and fractions. Tapes and calls are empty.
 pub fn valid(random: &mut Random, style: Style) -> Stream {
-    let stream = Stream {
-        max_padding_frac: 0,
-        max_blocking_frac: 0,
-        time: match random.below(8) {
-            0 => u64::MAX - random.below(20) as u64,
-            1 => random.word(),
-            2..4 => 0,
-            _ => random.below(1000) as u64,
-        },
-        machines: Vec::new(),
-        states: Vec::new(),
-        transitions: Vec::new(),
-        chances: Vec::new(),
-        values: Vec::new(),
-        calls: Vec::new(),
+    let time = match random.below(8) {
+        0 => u64::MAX - random.below(20) as u64,
+        1 => random.word(),
+        2..4 => 0,
+        _ => random.below(1000) as u64,
     };
-    let mut maker = Maker { random, style, stream };
+    let mut maker = Maker { random, style, stream: Stream { time, ..Stream::default() } };
     maker.stream.max_padding_frac = maker.framework_fraction();
     maker.stream.max_blocking_frac = maker.framework_fraction();
     let machines = maker.count_of_machines();

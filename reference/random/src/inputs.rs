@@ -1,4 +1,4 @@
-//! The generator's own numbers (splitmix64), the same for a seed everywhere.
+//! What generated inputs are made of (splitmix64): draws that often stand at an edge.
 
 #[derive(Clone, Debug)]
 pub struct Random(u64);
@@ -40,7 +40,7 @@ impl Random {
             0 => self.one_of(&[0.0, -0.0, f32::MIN_POSITIVE]),
             1 => self.one_of(&[1.0 - f32::EPSILON / 2.0, 0.999_999]),
             2 => self.one_of(&[0.25, 0.5, 0.75]),
-            _ => (self.word() >> 40) as f32 / (1u64 << 24) as f32,
+            _ => crate::unit_f32(self.word()),
         }
     }
 
@@ -50,7 +50,7 @@ impl Random {
             0 => return low,
             1 => return high.next_down().max(low),
             2 => self.one_of(&[0.25, 0.5, 0.75]),
-            _ => (self.word() >> 11) as f64 / (1u64 << 53) as f64,
+            _ => crate::unit(self.word()),
         };
         let v = low + (high - low) * u;
         if (low..high).contains(&v) { v } else { low }
