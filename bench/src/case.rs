@@ -1,11 +1,13 @@
 //! A case: machines, batches and tapes, run by both sides block by block.
 
 use crate::clock::Clock;
-use crate::input::{self, Random, Tapes};
+use crate::input::{self, Tapes};
 use crate::reference::{self, Micros, Reference};
+use harness::stream::{COUNTER_A, COUNTER_B, DURATION, LIMIT, MACHINE, PAIRS, STATE, TIMEOUT};
 use maybenot_link::dist::DistType;
 use maybenot_link::sys::{self, Words};
 use maybenot_link::{Draws, Framework, Machine, Tables, TriggerAction, TriggerEvent};
+use random::Plain as Random;
 use std::hint::black_box;
 use std::rc::Rc;
 
@@ -192,16 +194,16 @@ pub fn words_to_read(tables: Words<'_>) -> usize {
     let dist = |words: &[u64]| if words[0] == 1 { 3 } else { 1 };
     let counter = |words: &[u64]| if words[0] == 0 { 1 } else { 2 + dist(&words[2..]) };
     let state = |row: &[u64]| {
-        let counts = (0..13).map(|event| row[33 + 2 * event] as usize);
+        let counts = row[PAIRS..].chunks(2).map(|pair| pair[1] as usize);
         let pairs: usize = counts.map(|count| if count == 0 { 1 } else { 2 + 2 * count }).sum();
         let action = match row[0] {
             0 => 1,
             1 => 2,
-            2 => 2 + dist(&row[3..]) + dist(&row[13..]),
-            3 => 2 + dist(&row[3..]) + dist(&row[8..]) + dist(&row[13..]),
-            _ => 2 + dist(&row[8..]) + dist(&row[13..]),
+            2 => 2 + dist(&row[TIMEOUT..]) + dist(&row[LIMIT..]),
+            3 => 2 + dist(&row[TIMEOUT..]) + dist(&row[DURATION..]) + dist(&row[LIMIT..]),
+            _ => 2 + dist(&row[DURATION..]) + dist(&row[LIMIT..]),
         };
-        pairs + action + counter(&row[18..]) + counter(&row[25..])
+        pairs + action + counter(&row[COUNTER_A..]) + counter(&row[COUNTER_B..])
     };
-    4 * tables.machines.len() / 6 + tables.states.chunks(58).map(state).sum::<usize>()
+    4 * tables.machines.len() / MACHINE + tables.states.chunks(STATE).map(state).sum::<usize>()
 }

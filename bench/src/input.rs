@@ -6,30 +6,7 @@ use maybenot_link::dist::{Dist, DistType};
 use maybenot_link::event::Event;
 use maybenot_link::state::{State, Trans};
 use maybenot_link::{Machine, MachineId, Timer, TriggerEvent};
-
-/// xorshift64*.
-pub struct Random(u64);
-
-impl Random {
-    pub fn new(seed: u64) -> Random {
-        Random(seed.wrapping_mul(0x9e37_79b9_7f4a_7c15) | 1)
-    }
-
-    fn word(&mut self) -> u64 {
-        self.0 ^= self.0 >> 12;
-        self.0 ^= self.0 << 25;
-        self.0 ^= self.0 >> 27;
-        self.0.wrapping_mul(0x2545_f491_4f6c_dd1d)
-    }
-
-    pub fn below(&mut self, n: usize) -> usize {
-        (self.word() >> 11) as usize % n
-    }
-
-    fn unit(&mut self) -> f64 {
-        (self.word() >> 11) as f64 / (1u64 << 53) as f64
-    }
-}
+use random::Plain as Random;
 
 /// Constant or drawn outside, so that every draw fits.
 fn dist(random: &mut Random) -> Dist {
@@ -117,7 +94,7 @@ pub struct Tapes {
 
 pub fn tapes(random: &mut Random, chances: usize, values: usize) -> Tapes {
     Tapes {
-        chances: (0..chances).map(|_| (random.word() >> 40) as f32 / (1u32 << 24) as f32).collect(),
+        chances: (0..chances).map(|_| random.chance()).collect(),
         values: (0..values).map(|_| 100.0 * random.unit()).collect(),
     }
 }

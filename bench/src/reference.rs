@@ -1,53 +1,16 @@
 //! The Rust's side: the same machines in its own types, and draws read from the tapes.
 
 use crate::input::Tapes;
+pub use harness::engine::clock::Micros;
 use maybenot::action::Action;
 use maybenot::counter::{Counter, Operation};
 use maybenot::dist::{Dist, DistType};
 use maybenot::event::Event;
 use maybenot::state::{State, Trans};
-use maybenot::time::{Duration, Instant};
 use maybenot::{Framework, Machine, MachineId, Timer, TriggerAction, TriggerEvent};
 use maybenot_link as link;
 use standins::{EnumMap, RngCore};
-use std::ops::AddAssign;
 use std::rc::Rc;
-
-/// A clock of u64 microseconds.
-#[derive(Clone, Copy, PartialEq, PartialOrd, Debug)]
-pub struct Micros(pub u64);
-
-impl AddAssign for Micros {
-    fn add_assign(&mut self, other: Micros) {
-        self.0 = self.0.saturating_add(other.0);
-    }
-}
-
-impl Instant for Micros {
-    type Duration = Micros;
-
-    fn saturating_duration_since(&self, earlier: Micros) -> Micros {
-        Micros(self.0.saturating_sub(earlier.0))
-    }
-}
-
-impl Duration for Micros {
-    fn zero() -> Micros {
-        Micros(0)
-    }
-
-    fn from_micros(micros: u64) -> Micros {
-        Micros(micros)
-    }
-
-    fn is_zero(&self) -> bool {
-        self.0 == 0
-    }
-
-    fn div_duration_f64(self, rhs: Micros) -> f64 {
-        self.0 as f64 / rhs.0 as f64
-    }
-}
 
 /// Both tapes and the places up to which they are read.
 #[derive(Clone)]
