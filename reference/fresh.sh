@@ -5,7 +5,7 @@
 set -euo pipefail
 . "$(dirname "$0")/here.sh"
 
-count=26000
+count=13000
 commit=$(git rev-parse HEAD 2> /dev/null || echo 00000000)
 from=$((16#${commit:0:8} * count))
 cargo build --release --offline --quiet --bin compare
