@@ -42,6 +42,16 @@ pub struct Tally {
     pub left_out: u64,
 }
 
+impl Tally {
+    fn plus(self, more: Tally) -> Tally {
+        Tally {
+            inputs: self.inputs + more.inputs,
+            calls: self.calls + more.calls,
+            left_out: self.left_out + more.left_out,
+        }
+    }
+}
+
 /// How long a program may take at once.
 const PATIENCE: Duration = Duration::from_secs(20);
 
@@ -108,7 +118,9 @@ impl Program<'_> {
     /// What was compared by these inputs; none where any of them differs.
     fn compared(&self, inputs: &[Vec<u8>]) -> Option<Tally> {
         match self.kind {
-            Kind::Prints => inputs.iter().map(|input| self.compared_print(input)).sum(),
+            Kind::Prints => inputs
+                .iter()
+                .try_fold(Tally::default(), |sum, input| Some(sum.plus(self.printed(input)?))),
             Kind::Judges => {
                 let whole: Vec<_> = inputs.iter().filter_map(|input| answered(input)).collect();
                 let tally = self.judged(&whole)?;
@@ -117,7 +129,8 @@ impl Program<'_> {
         }
     }
 
-    fn compared_print(&self, input: &[u8]) -> Option<Tally> {
+    /// What was compared by an input's printed run; none where it is another than the Rust's.
+    fn printed(&self, input: &[u8]) -> Option<Tally> {
         let printed = self.run(input);
         let answers = crate::answers(input, false);
         let same = printed.ended && printed.text == crate::answer::print(&answers, false);
@@ -139,17 +152,19 @@ impl Program<'_> {
     /// worked example with another refusal, action, state or number of draws.
     pub fn unnoticed(&self) -> Option<&'static str> {
         let (input, given) = answered(&crate::cases::case("worked")).expect("whole words");
-        let passes = |(_, damage): &&(&str, fn(&mut Answer))| {
+        let passes = |damage: &Damage| {
             let mut damaged = given.clone();
-            damage(damaged.last_mut().expect("a call"));
+            damage.1(damaged.last_mut().expect("a call"));
             self.judged(&[(input.clone(), damaged)]).is_some()
         };
-        DAMAGES.iter().find(passes).map(|(what, _)| *what)
+        DAMAGES.iter().find(|damage| passes(damage)).map(|(what, _)| *what)
     }
 }
 
 /// What a judge has to look at, and a change of an answer that shows whether it does.
-const DAMAGES: [(&str, fn(&mut Answer)); 5] = [
+type Damage = (&'static str, fn(&mut Answer));
+
+const DAMAGES: [Damage; 5] = [
     ("a refusal", |a| a.refusal = 16),
     ("an action", |a| a.rows[0][4] += 1),
     ("the state", |a| *a.state.last_mut().expect("a machine") += 1),
@@ -166,23 +181,6 @@ fn all_agree(text: &[u8], cases: u64, calls: u64) -> bool {
         let head = format!("cases {cases}\ncalls {calls}\ndamaged calls {damaged}\n");
         text == format!("{head}agreed {agreed}\ndiffered 0\n")
     })
-}
-
-impl std::ops::AddAssign for Tally {
-    fn add_assign(&mut self, other: Tally) {
-        self.inputs += other.inputs;
-        self.calls += other.calls;
-        self.left_out += other.left_out;
-    }
-}
-
-impl std::iter::Sum for Tally {
-    fn sum<I: Iterator<Item = Tally>>(tallies: I) -> Tally {
-        tallies.fold(Tally::default(), |mut sum, tally| {
-            sum += tally;
-            sum
-        })
-    }
 }
 
 /// The first number below `count` whose input differs, tried by `threads` at once, and what was
@@ -222,7 +220,7 @@ pub fn first_difference(
 /// Adds to the sum, and says now and then how far it is.
 fn add(sum: &mut Tally, tally: Tally, begun: Instant) {
     let before = sum.inputs / 10_000;
-    *sum += tally;
+    *sum = sum.plus(tally);
     if sum.inputs / 10_000 > before {
         eprintln!("{} inputs in {} s", sum.inputs, begun.elapsed().as_secs());
     }
