@@ -1,7 +1,10 @@
 // The recorded corpus on standard input, little-endian words. Its format is in
 // reference/corpus/README.md.
-use super::answer::ROW_WORDS;
+use super::answer::ANSWER;
 use super::answer::ROWS_AT;
+use super::answer::STATE_MOST;
+use machine::constants::MACHINE_MAX;
+use machine::constants::ROW_WORDS;
 ghost use Prim.Native.Nat.{_+_, _≤_};
 ghost use lib.ListN.{length};
 
@@ -25,13 +28,13 @@ pub fn read_words(out: &mut [u64], at: usize, n: usize) -> bool
 }
 
 // Reads a call's answer to the start of out, which then has at most that many words. False where
-// it is cut, or too long for one of 16 machines.
-pub fn read_answer(out: &mut [u64; 256]) -> bool {
+// it is cut, or too long for one of the most machines.
+pub fn read_answer(out: &mut [u64; ANSWER]) -> bool {
     if !read_words(out, 0, ROWS_AT) {
         return false;
     }
     let actions = out[1];
-    if 16 < actions {
+    if actions > MACHINE_MAX as u64 {
         return false;
     }
     let rows = ROW_WORDS * actions as usize;
@@ -40,7 +43,7 @@ pub fn read_answer(out: &mut [u64; 256]) -> bool {
     }
     let state = ROWS_AT + rows;
     let count = out[state];
-    if 155 < count {
+    if count > STATE_MOST as u64 {
         return false;
     }
     read_words(out, state + 1, count as usize)

@@ -7,8 +7,12 @@ mod damage;
 mod judge;
 mod tally;
 
-use answer::ROW_WORDS;
-use answer::at_most_16;
+use answer::ANSWER;
+use answer::OUTPUT_WORDS;
+use answer::OWN_WORDS;
+use answer::ROWS_AT;
+use answer::at_most_max;
+use machine::constants::ROW_WORDS;
 use steps::Answer;
 use steps::Framework;
 use steps::Opened;
@@ -56,10 +60,10 @@ fn broken(t: Tally, call: u64) -> Turn {
 }
 
 // Refusal 21, and nothing more.
-fn unread_input(t: Tally, refusal: u64, theirs: &[u64; 256]) -> Turn {
-    let mut ours = [0u64; 256];
+fn unread_input(t: Tally, refusal: u64, theirs: &[u64; ANSWER]) -> Turn {
+    let mut ours = [0u64; ANSWER];
     ours[0] = refusal;
-    ours[4] = 11;
+    ours[ROWS_AT] = OWN_WORDS as u64;
     let field = answer::difference(&ours, theirs);
     Turn {
         tally: tally::recorded(t, 0, field),
@@ -105,15 +109,15 @@ fn judged_call(
     at: usize,
     chances: &[f32],
     values: &[f64],
-    theirs: &[u64; 256],
+    theirs: &[u64; ANSWER],
 ) -> Between
     requires { ⌜ (checkOf (now words) ≡ 0) × (nextCall (now words) at ≤ length (now words)) ⌝ }
 {
     let fw = b.framework;
     let chance_at = at_most(b.chance_at, chances.len());
     let value_at = at_most(b.value_at, values.len());
-    let room = ROW_WORDS * at_most_16(fw.machines);
-    let mut out = [judge::MARK; 96];
+    let room = ROW_WORDS * at_most_max(fw.machines);
+    let mut out = [judge::MARK; OUTPUT_WORDS];
     let a = judge::lent_batch(
         fw,
         stream::machine_table(words),
@@ -141,7 +145,7 @@ fn replay_call(
 ) -> Between
     requires { ⌜ (checkOf (now words) ≡ 0) × (nextCall (now words) at ≤ length (now words)) ⌝ }
 {
-    let mut theirs = [0u64; 256];
+    let mut theirs = [0u64; ANSWER];
     if corpus::read_answer(&mut theirs) {
         return judged_call(b, call, words, at, chances, values, &theirs);
     }
@@ -188,7 +192,13 @@ fn replay_opening(words: &[u64], values: &[f64]) -> Opened
 }
 
 // The opening of an input and its calls.
-fn replay_run(t: Tally, words: &[u64], chances: &[f32], values: &[f64], theirs: &[u64; 256]) -> Turn
+fn replay_run(
+    t: Tally,
+    words: &[u64],
+    chances: &[f32],
+    values: &[f64],
+    theirs: &[u64; ANSWER],
+) -> Turn
     requires { ⌜ checkOf (now words) ≡ 0 ⌝ }
 {
     let o = replay_opening(words, values);
@@ -219,7 +229,7 @@ fn replay_run(t: Tally, words: &[u64], chances: &[f32], values: &[f64], theirs: 
 }
 
 // An input with its tapes as floats.
-fn replay_input(t: Tally, words: &[u64], theirs: &[u64; 256]) -> Turn
+fn replay_input(t: Tally, words: &[u64], theirs: &[u64; ANSWER]) -> Turn
     requires { ⌜ (checkOf (now words) ≡ 0) × (length (now words) ≤ 8192) ⌝ }
 {
     let chance_words = stream::chance_words(words);
@@ -253,7 +263,7 @@ fn replay_case(t: Tally, words: &[u64]) -> Turn
     if !corpus::read_words(&mut calls, 0, 1) {
         return broken(t, 0);
     }
-    let mut theirs = [0u64; 256];
+    let mut theirs = [0u64; ANSWER];
     if !corpus::read_answer(&mut theirs) {
         return broken(t, 0);
     }

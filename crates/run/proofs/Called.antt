@@ -6,6 +6,7 @@ use native.Mathlib.Omega.{arith}
 use lib.Ieee.{Float}
 use lib.ListN.{length, take, drop, replicate, length-drop}
 use lib.Seq.{take-all}
+use Rattle.machine.specs.Constants.{machineMax, rowWords}
 use Rattle.text.specs.Columns.{callText}
 use Rattle.text.specs.Words.{chances, values}
 use Rattle.text.proofs.Lines.{length-call-text}
@@ -33,7 +34,7 @@ module _ (ws : List ℕ) (s : Step) where
       → ch ≡ chances (chanceWords ws)
       → vs ≡ values (valueWords ws)
       → batch (s .framework) (tables ms ss ts) (call .time) ev
-      (tapes (take (length ch - s .chance) (drop (s .chance) ch)) (take (length vs - s .value) (drop (s .value) vs))) (replicate 96 0)
+      (tapes (take (length ch - s .chance) (drop (s .chance) ch)) (take (length vs - s .value) (drop (s .value) vs))) (replicate (machineMax * rowWords) 0)
       ≡ batchAt ws s
   unfolding batchAt
   answered call ms ss ts ev ch vs is m-is s-is t-is ev-is ch-is vs-is =
@@ -57,7 +58,7 @@ module _ (ws : List ℕ) (s : Step) where
     q ∙ rw e (sym (length-call-text i (batchAt ws s .answer .refusal) (batchAt ws s .answer .actions) (batchAt ws s .out))),
   )
 
--- an answer has at most 16 rows
+-- an answer has at most a row for each machine
 pub rows-few : (a : Answer) (fw : Framework) (T : Tables) (time : ℕ) (es : List ℕ) (D : Tapes) (out : List ℕ)
-    → a ≡ batch fw T time es D out .answer → a .actions ≤ 16
+    → a ≡ batch fw T time es D out .answer → a .actions ≤ machineMax
 rows-few a fw T time es D out e = rw e (actions-few fw T time es D out)

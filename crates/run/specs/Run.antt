@@ -1,10 +1,11 @@
 -- The printed text of a run (document 01, "The printed run"): the opening's line, and then what each call prints, in order.
-use Prim.Native.Nat.{ℕ, zero, suc, _+_, min}
+use Prim.Native.Nat.{ℕ, zero, suc, _+_, _*_, min}
 use mathlib.Core.Bool.{cond}
 use mathlib.Core.List.{List, [], _++_}
 use lib.Dec.{eqb}
 use lib.Ieee.{Float}
 use lib.ListN.{length, drop, getD, replicate}
+use Rattle.machine.specs.Constants.{machineMax, rowWords}
 use Rattle.text.specs.Columns.{callText}
 use Rattle.text.specs.Words.{chances, values, valueOf}
 use Rattle.stream.specs.Stream.{paddingFrac, blockingFrac, openingTime, callCount, callsAt, machineTable, stateTable, transitionTable, chanceWords, valueWords, eventsOf, nextCall, inputRefusal, inputWords}
@@ -47,7 +48,7 @@ module _ (ws : List ℕ) where
   unfoldable pub batchAt : Step → Batch
   batchAt s =
       batch (s .framework) lentTables (getD ws (s .next) 0) (eventsOf ws (s .next))
-      (tapes (drop (s .chance) chanceTape) (drop (s .value) valueTape)) (replicate 96 0)
+      (tapes (drop (s .chance) chanceTape) (drop (s .value) valueTape)) (replicate (machineMax * rowWords) 0)
 
   unfoldable pub stepOf : Step → Step
   stepOf s =

@@ -1,4 +1,6 @@
 // The calls of the printed run, each rendered into a lent line buffer.
+use machine::constants::MACHINE_MAX;
+use machine::constants::ROW_WORDS;
 use steps::Framework;
 ghost use mathlib.Core.Path.{_≡_};
 ghost use mathlib.Core.List.{_++_};
@@ -7,6 +9,9 @@ ghost use lib.ListN.{length, drop};
 ghost use Rattle.text.specs.Words.{chances as chancesOf, values as valuesOf};
 ghost use Rattle.stream.specs.Stream.{nextCall, chanceWords, valueWords, checkOf};
 ghost use Rattle.run.specs.Run.{openedOf, started, printed, stepOf};
+
+// The words of an output with a row for each machine.
+const OUTPUT_WORDS: usize = MACHINE_MAX * ROW_WORDS;
 
 // Where a run stands: the framework, the place of the next call, and the draws taken of each tape.
 pub struct Step {
@@ -93,7 +98,7 @@ pub fn one_call(
     let chance = s.chance;
     let value = s.value;
     let fw = s.framework;
-    let mut rows = [0u64; 96];
+    let mut rows = [0u64; OUTPUT_WORDS];
     let a = framework::batch(
         fw,
         stream::machine_table(words),

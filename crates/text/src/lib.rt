@@ -1,8 +1,10 @@
 // The text of the printed run on lent bytes, and words and floats out of its input.
+use machine::constants::ROW_WORDS;
 ghost use mathlib.Core.Path.{_≡_};
 ghost use mathlib.Core.List.{_++_};
 ghost use Prim.Native.Nat.{_+_, _*_, _≤_, _<_};
 ghost use lib.ListN.{length, getD, drop};
+ghost use Rattle.machine.specs.Constants.{rowWords};
 ghost use Rattle.text.specs.Columns.{column, callLine, cellIn, rowLine, rowIn, callText, mark as markOf};
 ghost use Rattle.text.specs.Words.{pairAt, wordAt, wordsTo, chanceOf, valueOf, chances, values};
 
@@ -66,7 +68,7 @@ pub fn call_line(line: &mut [u8], call: u64, refusal: u64, actions: u64)
 
 // A row's line: its six words in 4, 4, 4, 4, 12 and 12 columns, and a line feed.
 pub fn row_line(line: &mut [u8], row: &[u64])
-    requires { ⌜ (41 ≤ length (now line)) × (6 ≤ length (now row)) ⌝ }
+    requires { ⌜ (41 ≤ length (now line)) × (rowWords ≤ length (now row)) ⌝ }
     ensures { λ _. ⌜ now (line .exit)
         ≡ rowLine (now (row .entry)) ++ drop 41 (now (line .entry)) ⌝ }
 {
@@ -78,16 +80,16 @@ pub fn row_line(line: &mut [u8], row: &[u64])
 
 // The line of row i, from `at` on.
 fn put_row(out: &mut [u8], at: usize, rows: &[u64], i: usize)
-    requires { ⌜ (at + 41 ≤ length (now out)) × (6 * i + 6 ≤ length (now rows)) ⌝ }
+    requires { ⌜ (at + 41 ≤ length (now out)) × (rowWords * i + rowWords ≤ length (now rows)) ⌝ }
     ensures { λ _. ⌜ now (out .exit) ≡ rowIn at (now (rows .entry)) i (now (out .entry)) ⌝ }
 {
-    let row = 6 * i;
+    let row = ROW_WORDS * i;
     row_line(&mut out[at..], &rows[row..]);
 }
 
 // What a call prints: its line, and the lines of its rows. Answers how many bytes that is.
 pub fn call_text(out: &mut [u8], call: u64, refusal: u64, actions: usize, rows: &[u64]) -> usize
-    requires { ⌜ (15 + 41 * actions ≤ length (now out)) × (6 * actions ≤ length (now rows)) ⌝ }
+    requires { ⌜ (15 + 41 * actions ≤ length (now out)) × (rowWords * actions ≤ length (now rows)) ⌝ }
     ensures { λ r. ⌜ (r ≡ 15 + 41 * actions)
         × (now (out .exit)
         ≡ callText call refusal actions (now (rows .entry)) ++ drop r (now (out .entry))) ⌝ }
