@@ -6,7 +6,7 @@ ghost use Prim.Native.Nat.{_+_, _*_, _≤_, _<_};
 ghost use lib.ListN.{length, getD, drop};
 ghost use Rattle.machine.specs.Constants.{rowWords};
 ghost use Rattle.text.specs.Columns.{column, callLine, cellIn, rowLine, rowIn, callText, mark as markOf};
-ghost use Rattle.text.specs.Words.{pairAt, wordAt, wordsTo, chanceOf, valueOf, chances, values};
+ghost use Rattle.text.specs.Words.{pairAt, wordAt, wordsTo, chances, values};
 
 // The byte in a column left of the last: a digit, or a space where no digit is left.
 fn mark(rest: u64) -> u8
@@ -141,29 +141,6 @@ pub fn put_words(b: &[u8], k: usize, out: &mut [u64])
     }
 }
 
-// The f32 whose bits are the low 32 of a word, a NaN's pattern among them.
-fn chance_of(w: u64) -> f32
-    ensures { λ r. ⌜ r ≡ chanceOf w ⌝ }
-{
-    let n = (w % 4294967296) as u32;
-    if 2139095040 < n % 2147483648 {
-        0.0 / 0.0
-    } else {
-        f32::from_bits(n)
-    }
-}
-
-// The f64 whose bits are a word, a NaN's pattern among them.
-fn value_of(w: u64) -> f64
-    ensures { λ r. ⌜ r ≡ valueOf w ⌝ }
-{
-    if 9218868437227405312 < w % 9223372036854775808 {
-        0.0 / 0.0
-    } else {
-        f64::from_bits(w)
-    }
-}
-
 // Puts the chance draws of all of words at the start of out.
 pub fn put_chances(words: &[u64], out: &mut [f32])
     requires { ⌜ length (now words) ≤ length (now out) ⌝ }
@@ -172,7 +149,7 @@ pub fn put_chances(words: &[u64], out: &mut [f32])
 {
     let mut i = 0;
     while i < words.len() {
-        out[i] = chance_of(words[i]);
+        out[i] = numbers::f32_of_word(words[i]);
         i += 1;
     }
 }
@@ -185,7 +162,7 @@ pub fn put_values(words: &[u64], out: &mut [f64])
 {
     let mut i = 0;
     while i < words.len() {
-        out[i] = value_of(words[i]);
+        out[i] = numbers::f64_of_word(words[i]);
         i += 1;
     }
 }
