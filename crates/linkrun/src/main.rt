@@ -1,5 +1,5 @@
 // The printed run: reads the input's words, runs its calls, and hands the text over call by call.
-use run::Step;
+use run::Standing;
 ghost use mathlib.Core.Path.{_≡_};
 ghost use mathlib.Core.Bool.{true};
 ghost use mathlib.Core.List.{[]};
@@ -29,7 +29,7 @@ fn calls(
     words: &[u64],
     chances: &[f32],
     values: &[f64],
-    opened: Step,
+    opened: Standing,
     line: usize,
 ) -> Handed
     requires { ⌜ (checkOf (now words) ≡ 0) × (length (now words) ≤ 8192)
@@ -50,7 +50,7 @@ fn calls(
             return Handed { from, whole: false };
         }
         from += n;
-        s = r.step;
+        s = r.stands;
         i += 1;
     }
     Handed { from, whole: true }
@@ -77,7 +77,7 @@ fn opening(input: &[u8], words: &[u64], chances: &[f32], values: &[f64]) -> Hand
             whole: true,
         };
     }
-    let s = started.step;
+    let s = started.stands;
     calls(input, words, chances, values, s, n)
 }
 

@@ -8,7 +8,7 @@ use mathlib.Core.Bool.{Bool, true, false}
 use lib.ListN.{length, drop, length-take}
 use Rattle.stream.specs.Stream.{callAt}
 use Rattle.stream.specs.Inside.{call-inside, calls-few}
-use Rattle.run.specs.declared.Step.{Step}
+use Rattle.run.specs.declared.Standing.{Standing}
 use Rattle.run.specs.Run.{callsText, inputText, printed}
 use Rattle.linkrun.proofs.Handing.{turn, part, rest, behind, none-left, next-is}
 use borrow.Author.Needs.{needs}
@@ -120,7 +120,7 @@ loop-again c =
     let ws = p .args .words .now in
     let text = drop (l .from) (inputText (p .args .input .now)) in
     let e = turn ws text (w .result) (l .i) (l .s) (t .loop-test .taken) (l .inv .6) in
-    let n : o .result .step .next ≡ callAt ws (l .i + 1) = next-is ws (l .i) (l .s) (o .result .step) (o .ensures .0) (l .inv .2) in (
+    let n : o .result .stands .next ≡ callAt ws (l .i + 1) = next-is ws (l .i) (l .s) (o .result .stands) (o .ensures .0) (l .inv .2) in (
       omega (arith, t .loop-test .taken),
       o .kept .1 .1 .1 .1 .1 .0 ∙ l .inv .1,
       n,
@@ -129,7 +129,7 @@ loop-again c =
       omega (arith, o .ensures .1 .1 .1, l .inv .5),
       behind (l .from) (o .result .bytes) (inputText (p .args .input .now)) _
           (rest (printed ws (l .i + 1) (l .s)) _ (l .text) _ text (o .result .bytes) (o .ensures .1 .0) (o .ensures .1 .1 .0) e)
-          ∙ ap (λ (x : Step). callsText ws (w .result - (l .i + 1)) (l .i + 1 + 1) x) (sym (o .ensures .0)),
+          ∙ ap (λ (x : Standing). callsText ws (w .result - (l .i + 1)) (l .i + 1 + 1) x) (sym (o .ensures .0)),
     )
 
 returns-2 : tie.Need-returns-2 Inv-loop μ-loop

@@ -7,7 +7,7 @@ use lib.ListN.{length, length-take}
 use Rattle.text.specs.Columns.{callText}
 use Rattle.text.proofs.Lines.{length-call-text}
 use Rattle.run.specs.Run.{inputText}
-use Rattle.linkrun.proofs.Handing.{part, rest, no-rows, opens, opens-refused, opens-accepted, stands}
+use Rattle.linkrun.proofs.Handing.{part, rest, no-rows, opens, opens-refused, opens-accepted, at-first}
 use borrow.Author.Needs.{needs}
 use Rattle.linkrun.proofs.opening.Statement.{statement}
 use Rattle.linkrun.proofs.opening.Tie as tie
@@ -64,7 +64,7 @@ calls-requires c κs =
     let refusal = o .result .refusal in
     let is = no-rows 0 refusal _ _ _ (t .result) (t .ensures .1) in
     let size : t .result ≡ length (callText 0 refusal 0 []) = t .ensures .0 ∙ sym (length-call-text 0 refusal 0 []) in
-    let s = stands (p .args .words .now) (o .result) (o .ensures .0) in (
+    let s = at-first (p .args .words .now) (o .result) (o .ensures .0) in (
       p .pre .1,
       p .pre .2,
       p .pre .3,
