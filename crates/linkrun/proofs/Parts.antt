@@ -29,11 +29,19 @@ module _ (P R o line T : List ℕ) (n : ℕ) (is : line ≡ P ++ drop n o) (size
   pub part : take n line ≡ take (length (take n line)) T
   part = rw (first, left, take-at P R (length P) refl)
 
+  pub taken : length (take n line) ≡ n
+  taken = ap length first ∙ sym size
+
   pub rest : drop n T ≡ R
   rest = ap (drop n) left ∙ drop-at P R n (sym size)
 
-pub behind : (from n : ℕ) (T R : List ℕ) → drop n (drop from T) ≡ R → drop (from + n) T ≡ R
-behind from n T R h = sym (drop-drop n from T) ∙ h
+-- the same behind the first `from` bytes of a text: what is left of it where that part was handed over too
+module _ (P R o line T : List ℕ) (from n r : ℕ) (is : line ≡ P ++ drop n o) (size : n ≡ length P) (left : drop from T ≡ P ++ R)
+    (further : r ≡ from + length (take n line)) where
+  pub behind : drop r T ≡ R
+  behind =
+      let e : r ≡ from + n = further ∙ ap (λ (k : ℕ). from + k) (taken P R o line (drop from T) n is size left) in
+      ap (λ (k : ℕ). drop k T) e ∙ sym (drop-drop n from T) ∙ rest P R o line (drop from T) n is size left
 
 pub none-left : (ws : List ℕ) (k i : ℕ) (s : Standing) → k ≡ 0 → callsText ws k i s ≡ []
 unfolding callsText
