@@ -145,12 +145,10 @@ pub fn difference(a: &[u64; ANSWER], b: &[u64; ANSWER]) -> usize
     ensures within { λ r. do ⌜ r ≤ (← ⟦ANSWER⟧ .entry) ⌝ }
     ensures before { λ r. ⌜ ((k : ℕ) → k < r → getD (now (a .entry)) k 0 ≡ getD (now (b .entry)) k 0) ⌝ }
 {
-    let mut i: usize = 0;
-    while i < ANSWER {
+    for i in 0..ANSWER {
         if a[i] != b[i] {
             return i;
         }
-        i += 1;
     }
-    i
+    ANSWER
 }

@@ -72,12 +72,10 @@ fn ended_as_it_is(fw: Framework) -> bool {
 
 // Whether the output from a place on is as it was.
 fn untouched(out: &[u64; OUTPUT_WORDS], from: usize) -> bool {
-    let mut i = from;
-    while i < OUTPUT_WORDS {
+    for i in from..OUTPUT_WORDS {
         if out[i] != MARK {
             return false;
         }
-        i += 1;
     }
     true
 }
