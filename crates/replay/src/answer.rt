@@ -37,12 +37,12 @@ fn bits(x: f64) -> u64 {
     }
 }
 
-// Puts words in an answer, from `at` on.
-fn put(out: &mut [u64; ANSWER], at: usize, words: &[u64])
-    requires { do ⌜ at + length (now words) ≤ (← ⟦ANSWER⟧) ⌝ }
+// Puts the first n words in an answer, from `at` on.
+fn put(out: &mut [u64; ANSWER], at: usize, words: &[u64], n: usize)
+    requires { do ⌜ (at + n ≤ (← ⟦ANSWER⟧)) × (n ≤ length (now words)) ⌝ }
 {
     let mut i: usize = 0;
-    while i < words.len() {
+    while i < n {
         out[at + i] = words[i];
         i += 1;
     }
@@ -62,7 +62,7 @@ fn put_runtime(out: &mut [u64; ANSWER], at: usize, r: MachineRuntime)
         r.counter_a,
         r.counter_b,
     ];
-    put(out, at, &words);
+    put(out, at, &words, RUNTIME_WORDS);
 }
 
 // The number of the state's words, and the framework's own.
@@ -83,7 +83,7 @@ fn put_own(out: &mut [u64; ANSWER], at: usize, count: u64, fw: Framework)
         fw.signal_pending,
         fw.framework_start,
     ];
-    put(out, at, &words);
+    put(out, at, &words, 1 + OWN_WORDS);
 }
 
 // The framework's state with so many machines, behind the number of its words.
@@ -110,16 +110,6 @@ pub fn at_most_max(n: u64) -> usize
     }
 }
 
-fn put_rows(out: &mut [u64; ANSWER], rows: &[u64; OUTPUT_WORDS], words: usize)
-    requires { do ⌜ words ≤ (← ⟦OUTPUT_WORDS⟧) ⌝ }
-{
-    let mut i: usize = 0;
-    while i < words {
-        out[ROWS_AT + i] = rows[i];
-        i += 1;
-    }
-}
-
 // An answer with so many machines of its framework.
 pub fn put_answer(
     out: &mut [u64; ANSWER],
@@ -134,9 +124,9 @@ pub fn put_answer(
     requires { ⌜ machines ≤ machineMax ⌝ }
 {
     let head = [refusal, actions, chance_used, value_used];
-    put(out, 0, &head);
+    put(out, 0, &head, ROWS_AT);
     let words = ROW_WORDS * at_most_max(actions);
-    put_rows(out, rows, words);
+    put(out, ROWS_AT, rows, words);
     put_state(out, ROWS_AT + words, fw, machines);
 }
 

@@ -8,23 +8,17 @@ use machine::constants::ROW_WORDS;
 ghost use Prim.Native.Nat.{_+_, _≤_};
 ghost use lib.ListN.{length};
 
-// Fills the first n bytes of out, and answers whether they were all there.
-fn read_bytes(out: &mut [u8], n: usize) -> bool
-    requires { ⌜ n ≤ length (now out) ⌝ }
-{
-    io::read_full(0, &mut out[..n]) >= n
-}
-
-// The same for n words of out from `at` on.
+// Fills n words of out from `at` on, and answers whether they were all there.
 pub fn read_words(out: &mut [u64], at: usize, n: usize) -> bool
     requires { ⌜ (at + n ≤ length (now out)) × (n ≤ 8192) ⌝ }
 {
-    let mut bytes = [0u8; 65536];
-    if read_bytes(&mut bytes, 8 * n) {
-        text::put_words(&bytes, n, &mut out[at..]);
-        return true;
+    let mut bytes = io::large_buffer();
+    let end = 8 * n;
+    if io::read_full(0, &mut bytes[..end]) < end {
+        return false;
     }
-    false
+    text::put_words(&bytes, n, &mut out[at..]);
+    true
 }
 
 // Reads a call's answer to the start of out, which then has at most that many words. False where

@@ -40,16 +40,10 @@ struct Turn {
 // Between two calls of a case: where the tapes go on, and the same.
 struct Between {
     framework: Framework,
-    chance_at: usize,
-    value_at: usize,
+    chance_at: u64,
+    value_at: u64,
     tally: Tally,
     more: bool,
-}
-
-fn at_most(n: usize, most: usize) -> usize
-    ensures { λ r. ⌜ r ≤ most ⌝ }
-{
-    if n < most { n } else { most }
 }
 
 fn broken(t: Tally, call: u64) -> Turn {
@@ -71,31 +65,13 @@ fn unread_input(t: Tally, refusal: u64, theirs: &[u64; ANSWER]) -> Turn {
     }
 }
 
-// The place on a tape after a call.
-fn taken(at: usize, used: u64) -> usize {
-    numbers::saturating_add(at as u64, used) as usize
-}
-
-fn stopped(b: Between, call: u64) -> Between {
-    let fw = b.framework;
-    let t = b.tally;
-    let turn = broken(t, call);
-    let tally = turn.tally;
-    Between {
-        framework: fw,
-        chance_at: b.chance_at,
-        value_at: b.value_at,
-        tally: tally,
-        more: false,
-    }
-}
-
-fn after_call(a: Answer, chance_at: usize, value_at: usize, tally: Tally) -> Between {
+// Behind a call that got its tapes from these places on.
+fn after_call(a: Answer, chance_at: u64, value_at: u64, tally: Tally) -> Between {
     let fw = a.framework;
     Between {
         framework: fw,
-        chance_at: taken(chance_at, a.chance_used),
-        value_at: taken(value_at, a.value_used),
+        chance_at: numbers::saturating_add(chance_at, a.chance_used),
+        value_at: numbers::saturating_add(value_at, a.value_used),
         tally: tally,
         more: true,
     }
@@ -114,8 +90,8 @@ fn judged_call(
     requires { ⌜ (checkOf (now words) ≡ 0) × (nextCall (now words) at ≤ length (now words)) ⌝ }
 {
     let fw = b.framework;
-    let chance_at = at_most(b.chance_at, chances.len());
-    let value_at = at_most(b.value_at, values.len());
+    let chance_at = numbers::smaller(b.chance_at, chances.len() as u64) as usize;
+    let value_at = numbers::smaller(b.value_at, values.len() as u64) as usize;
     let room = ROW_WORDS * at_most_max(fw.machines);
     let mut out = [judge::MARK; OUTPUT_WORDS];
     let a = judge::lent_batch(
@@ -132,7 +108,7 @@ fn judged_call(
     );
     let t = b.tally;
     let tally = tally::recorded(t, call, judge::call_field(fw, a, &out, theirs));
-    after_call(a, chance_at, value_at, tally)
+    after_call(a, chance_at as u64, value_at as u64, tally)
 }
 
 fn replay_call(
@@ -149,7 +125,12 @@ fn replay_call(
     if corpus::read_answer(&mut theirs) {
         return judged_call(b, call, words, at, chances, values, &theirs);
     }
-    stopped(b, call)
+    let t = b.tally;
+    let tally = tally::recorded(t, call, tally::CORPUS);
+    let mut r = b;
+    r.tally = tally;
+    r.more = false;
+    r
 }
 
 // All calls of an input behind its opening.
@@ -215,8 +196,8 @@ fn replay_run(
     let fw = o.framework;
     let first = Between {
         framework: fw,
-        chance_at: taken(0, o.chance_used),
-        value_at: taken(0, o.value_used),
+        chance_at: o.chance_used,
+        value_at: o.value_used,
         tally: t,
         more: true,
     };

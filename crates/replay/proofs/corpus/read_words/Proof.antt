@@ -1,54 +1,70 @@
 -- `replay::corpus::read_words` is safe.
-use borrow.Author.Needs.{needs}
-use Prim.Native.Nat.{ℕ}
 use native.Mathlib.Omega.{arith}
-use lib.ListN.{length-replicate}
+use lib.ListN.{length-take, length-drop, length-append}
+use borrow.Author.Needs.{needs}
 use Rattle.replay.proofs.corpus.read_words.Statement.{statement}
 use Rattle.replay.proofs.corpus.read_words.Tie as tie
 
-slice-aggregate-read-bytes : tie.Need-slice-aggregate-read-bytes
-slice-aggregate-read-bytes c = length-replicate {A = ℕ} 65536 0
+large-buffer-requires : tie.Need-large-buffer-requires
+large-buffer-requires c κs = search needs
 
-mul-read-bytes : tie.Need-mul-read-bytes
-mul-read-bytes c = omega arith
+mul-end : tie.Need-mul-end
+mul-end c = search needs
 
-read-bytes-requires : tie.Need-read-bytes-requires
-read-bytes-requires c κs = simp length-replicate (omega arith)
+array-borrow-prefix-bytes : tie.Need-array-borrow-prefix-bytes
+array-borrow-prefix-bytes c = search needs
+
+slice-aggregate-read-full : tie.Need-slice-aggregate-read-full
+slice-aggregate-read-full c = simp length-take (omega (arith, c .before .large-buffer .ensures))
+
+read-full-requires : tie.Need-read-full-requires
+read-full-requires c κs = search needs
+
+returns : tie.Need-returns
+returns c = search needs
 
 slice-aggregate-put-words : tie.Need-slice-aggregate-put-words
-slice-aggregate-put-words c = search needs
+slice-aggregate-put-words c =
+    let r = c .before .before .before .read-full in
+    let b = c .before .before .before .before .before .large-buffer in
+    simp (length-append, length-drop) (omega (arith, b .ensures, simp length-take at (r .kept .1 .0)))
 
 mul-put-words : tie.Need-mul-put-words
-mul-put-words c = omega arith
+mul-put-words c = search needs
 
 sub-put-words : tie.Need-sub-put-words
-sub-put-words c = omega arith
+sub-put-words c = search needs
 
 part-put-words-start : tie.Need-part-put-words-start
-part-put-words-start c = omega arith
+part-put-words-start c = search needs
 
 part-put-words-end : tie.Need-part-put-words-end
-part-put-words-end c = omega arith
+part-put-words-end c = search needs
 
 put-words-requires : tie.Need-put-words-requires
-put-words-requires c κs = search needs
+put-words-requires c κs =
+    let r = c .before .before .before .before .read-full in
+    let b = c .before .before .before .before .before .before .large-buffer in (
+      simp (length-append, length-drop) (omega (arith, b .ensures, simp length-take at (r .kept .1 .0))),
+      simp (length-take, length-drop) (omega arith),
+    )
 
 same-length : tie.Need-same-length
 same-length c = search needs
 
-returns : tie.Need-returns
-returns c = tt
-
 returns-2 : tie.Need-returns-2
-returns-2 c = tt
+returns-2 c = search needs
 
 pub read-words-spec : {M : Type 1} → statement M
 read-words-spec =
     tie.close
     (tie.spec
-    slice-aggregate-read-bytes
-    mul-read-bytes
-    read-bytes-requires
+    large-buffer-requires
+    mul-end
+    array-borrow-prefix-bytes
+    slice-aggregate-read-full
+    read-full-requires
+    returns
     slice-aggregate-put-words
     mul-put-words
     sub-put-words
@@ -56,5 +72,4 @@ read-words-spec =
     part-put-words-end
     put-words-requires
     same-length
-    returns
     returns-2)
