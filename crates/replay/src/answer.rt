@@ -1,6 +1,10 @@
-// An answer as words in the corpus's layout: refusal, number of actions, chance and value draws,
-// the actions' rows, number of the state's words, the state's words. So two answers are the same
-// where their words are.
+// An answer as words in the corpus's layout, so that two answers are the same where their words are.
+use corpus::ANSWER;
+use corpus::OUTPUT_WORDS;
+use corpus::OWN_WORDS;
+use corpus::ROWS_AT;
+use corpus::RUNTIME_WORDS;
+use corpus::STATE_LAST;
 use machine::constants::MACHINE_MAX;
 use machine::constants::ROW_WORDS;
 use steps::Framework;
@@ -9,24 +13,6 @@ ghost use mathlib.Core.Path.{_≡_};
 ghost use Prim.Native.Nat.{ℕ, _+_, _*_, _≤_, _<_};
 ghost use lib.ListN.{length, getD};
 ghost use Rattle.machine.specs.Constants.{machineMax};
-
-// The words of an output with a row for each machine.
-pub const OUTPUT_WORDS: usize = MACHINE_MAX * ROW_WORDS;
-
-// The words before the rows.
-pub const ROWS_AT: usize = 4;
-
-// The words of a framework's state but its machines', and of a machine's.
-pub const OWN_WORDS: usize = 11;
-
-const RUNTIME_WORDS: usize = 9;
-
-// The most words of a state, where the state of the longest answer begins, and that answer's words.
-pub const STATE_MOST: usize = OWN_WORDS + RUNTIME_WORDS * MACHINE_MAX;
-
-const STATE_LAST: usize = ROWS_AT + OUTPUT_WORDS;
-
-pub const ANSWER: usize = STATE_LAST + 1 + STATE_MOST;
 
 // Bits of a float. NaNs count as one.
 fn bits(x: f64) -> u64 {

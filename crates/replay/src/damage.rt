@@ -1,5 +1,4 @@
 // Calls that no input of linkrun can make: each is refused with its number and changes nothing.
-use super::answer::OUTPUT_WORDS;
 use super::answer::at_most_max;
 use super::judge::MARK;
 use super::judge::lent_batch;
@@ -7,6 +6,7 @@ use super::judge::refused_field;
 use super::judge::refused_opening_field;
 use super::tally::Tally;
 use super::tally::damaged;
+use corpus::OUTPUT_WORDS;
 use machine::constants::MACHINE_WORDS;
 use machine::constants::NUM_STATES;
 use machine::constants::ROW_WORDS;

@@ -1,8 +1,4 @@
 // What an answer differs in from the recorded one, or from what a refused call must leave.
-use super::answer::ANSWER;
-use super::answer::OUTPUT_WORDS;
-use super::answer::ROWS_AT;
-use super::answer::STATE_MOST;
 use super::answer::at_most_max;
 use super::answer::difference;
 use super::answer::put_answer;
@@ -10,6 +6,11 @@ use super::tally::AGREED;
 use super::tally::ENDED;
 use super::tally::LIMIT;
 use super::tally::OUTPUT;
+use corpus::ANSWER;
+use corpus::INPUT;
+use corpus::OUTPUT_WORDS;
+use corpus::ROWS_AT;
+use corpus::STATE_MOST;
 use machine::constants::ACTION;
 use machine::constants::FIRST_STATE;
 use machine::constants::MACHINE_MAX;
@@ -85,7 +86,7 @@ fn starts_with_action(machines: &[u64], states: &[u64], m: usize) -> bool
     requires { ⌜ m ≤ machineMax ⌝ }
 {
     let first = stream::word(machines, MACHINE_WORDS * m + FIRST_STATE);
-    if first < 8192 {
+    if first < INPUT as u64 {
         return stream::word(states, STATE_WORDS * first as usize + ACTION) != 0;
     }
     true

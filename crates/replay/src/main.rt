@@ -2,16 +2,16 @@
 // of each answer and of the framework's state after each call, and besides, on each case, calls
 // that no input of linkrun can make (damage.rt). Standard input is the corpus.
 mod answer;
-mod corpus;
 mod damage;
 mod judge;
 mod tally;
 
-use answer::ANSWER;
-use answer::OUTPUT_WORDS;
-use answer::OWN_WORDS;
-use answer::ROWS_AT;
 use answer::at_most_max;
+use corpus::ANSWER;
+use corpus::INPUT;
+use corpus::OUTPUT_WORDS;
+use corpus::OWN_WORDS;
+use corpus::ROWS_AT;
 use machine::constants::ROW_WORDS;
 use steps::Answer;
 use steps::Framework;
@@ -21,12 +21,6 @@ ghost use mathlib.Core.Path.{_≡_};
 ghost use Prim.Native.Nat.{_+_, _≤_};
 ghost use lib.ListN.{length};
 ghost use Rattle.stream.specs.Stream.{checkOf, nextCall};
-
-// The words of the longest input.
-const INPUT: u64 = 8192;
-
-// The one kind of case there is: an input of linkrun.
-const KIND: u64 = 1;
 
 // More cases than a corpus has.
 const CASES: u64 = 1000000;
@@ -211,12 +205,12 @@ fn replay_run(
 
 // An input with its tapes as floats.
 fn replay_input(t: Tally, words: &[u64], theirs: &[u64; ANSWER]) -> Turn
-    requires { ⌜ (checkOf (now words) ≡ 0) × (length (now words) ≤ 8192) ⌝ }
+    requires { do ⌜ (checkOf (now words) ≡ 0) × (length (now words) ≤ (← ⟦INPUT⟧)) ⌝ }
 {
     let chance_words = stream::chance_words(words);
     let value_words = stream::value_words(words);
-    let mut chances = [0.0f32; 8192];
-    let mut values = [0.0f64; 8192];
+    let mut chances = [0.0f32; INPUT];
+    let mut values = [0.0f64; INPUT];
     text::put_chances(chance_words, &mut chances);
     text::put_values(value_words, &mut values);
     replay_run(
@@ -238,7 +232,7 @@ fn call_count(words: &[u64], refusal: u64) -> u64 {
 
 // A case's input, then its answers.
 fn replay_case(t: Tally, words: &[u64]) -> Turn
-    requires { ⌜ length (now words) ≤ 8192 ⌝ }
+    requires { do ⌜ length (now words) ≤ (← ⟦INPUT⟧) ⌝ }
 {
     let mut calls = [0u64; 1];
     if !corpus::read_words(&mut calls, 0, 1) {
@@ -260,28 +254,19 @@ fn replay_case(t: Tally, words: &[u64]) -> Turn
 
 // The next case, where there is one.
 fn replay_next(t: Tally) -> Turn {
-    let mut head = [0u64; 2];
-    if !corpus::read_words(&mut head, 0, 1) {
+    let mut words = [0u64; INPUT];
+    let input = corpus::read_input(&mut words);
+    if input.found == corpus::END {
         return Turn {
             tally: t,
             more: false,
         };
     }
     let t = tally::next_case(t);
-    if !corpus::read_words(&mut head, 1, 1) {
+    if input.found == corpus::BROKEN {
         return broken(t, 0);
     }
-    if head[0] != KIND {
-        return broken(t, 0);
-    }
-    if INPUT < head[1] {
-        return broken(t, 0);
-    }
-    let count = head[1] as usize;
-    let mut words = [0u64; 8192];
-    if !corpus::read_words(&mut words, 0, count) {
-        return broken(t, 0);
-    }
+    let count = input.count;
     replay_case(t, &words[..count])
 }
 

@@ -1,5 +1,5 @@
 // What was compared, and what differed.
-use super::answer::ANSWER;
+use corpus::ANSWER;
 
 // Cases and calls of the corpus, calls of our own on damaged input, and how many of both agreed.
 pub struct Tally {

@@ -1,9 +1,9 @@
--- `replay::corpus::read_words` is safe.
+-- `corpus::read_words` is safe.
 use native.Mathlib.Omega.{arith}
 use lib.ListN.{length-take, length-drop, length-append}
 use borrow.Author.Needs.{needs}
-use Rattle.replay.proofs.corpus.read_words.Statement.{statement}
-use Rattle.replay.proofs.corpus.read_words.Tie as tie
+use Rattle.corpus.proofs.read_words.Statement.{statement}
+use Rattle.corpus.proofs.read_words.Tie as tie
 
 large-buffer-requires : tie.Need-large-buffer-requires
 large-buffer-requires c κs = search needs
