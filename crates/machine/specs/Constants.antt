@@ -37,6 +37,10 @@ stateWords = 58
 abbrev pub transitionWords : ℕ
 transitionWords = 2
 
+-- ---- words of an action's row in the output
+abbrev pub rowWords : ℕ
+rowWords = 6
+
 -- ---- where the fields of a machine row begin
 abbrev pub allowedPaddingPackets : ℕ
 allowedPaddingPackets = 0

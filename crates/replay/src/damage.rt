@@ -1,12 +1,15 @@
 // Calls that no input of linkrun can make: each is refused with its number and changes nothing.
-use super::answer::ROW_WORDS;
-use super::answer::at_most_16;
+use super::answer::at_most_max;
 use super::judge::MARK;
 use super::judge::lent_batch;
 use super::judge::refused_field;
 use super::judge::refused_opening_field;
 use super::tally::Tally;
 use super::tally::damaged;
+use corpus::OUTPUT_WORDS;
+use machine::constants::MACHINE_WORDS;
+use machine::constants::NUM_STATES;
+use machine::constants::ROW_WORDS;
 use steps::Framework;
 use steps::Opened;
 ghost use mathlib.Core.Path.{_≡_};
@@ -93,29 +96,29 @@ fn event_words(damage: u64) -> usize
 }
 
 fn room(damage: u64, machines: u64) -> usize
-    ensures { λ r. ⌜ r ≤ 96 ⌝ }
+    ensures { λ r. do ⌜ r ≤ (← ⟦OUTPUT_WORDS⟧ .entry) ⌝ }
 {
-    let words = ROW_WORDS * at_most_16(machines);
+    let words = ROW_WORDS * at_most_max(machines);
     if damage == SHORT_OUTPUT {
         if 0 < words {
             return words - 1;
         }
     }
-    96
+    OUTPUT_WORDS
 }
 
 // The framework with its last machine in a state one past its last.
 fn state_beyond(fw: Framework, words: &[u64]) -> Framework
     requires { ⌜ checkOf (now words) ≡ 0 ⌝ }
 {
-    let count = at_most_16(fw.machines);
+    let count = at_most_max(fw.machines);
     if count == 0 {
         return fw;
     }
     let m = count - 1;
     let mut d = fw;
     let mut r = fw.runtime[m];
-    r.current_state = stream::word(stream::machine_table(words), ROW_WORDS * m + 5);
+    r.current_state = stream::word(stream::machine_table(words), MACHINE_WORDS * m + NUM_STATES);
     d.runtime[m] = r;
     d
 }
@@ -150,7 +153,7 @@ fn batch_field(fw: Framework, words: &[u64], damage: u64, refusal: u64) -> usize
     let chances = [0.5f32; 16];
     let values = [1.0f64; 16];
     let time = numbers::saturating_add(fw.current_time, 1);
-    let mut out = [MARK; 96];
+    let mut out = [MARK; OUTPUT_WORDS];
     let end = room(damage, fw.machines);
     let a = lent_batch(
         fw,

@@ -1,18 +1,29 @@
 // What an answer differs in from the recorded one, or from what a refused call must leave.
-use super::answer::ROW_WORDS;
-use super::answer::ROWS_AT;
-use super::answer::at_most_16;
+use super::answer::at_most_max;
 use super::answer::difference;
 use super::answer::put_answer;
 use super::tally::AGREED;
 use super::tally::ENDED;
 use super::tally::LIMIT;
 use super::tally::OUTPUT;
+use corpus::ANSWER;
+use corpus::INPUT;
+use corpus::OUTPUT_WORDS;
+use corpus::ROWS_AT;
+use corpus::STATE_MOST;
+use machine::constants::ACTION;
+use machine::constants::FIRST_STATE;
+use machine::constants::MACHINE_MAX;
+use machine::constants::MACHINE_WORDS;
+use machine::constants::ROW_WORDS;
+use machine::constants::STATE_END;
+use machine::constants::STATE_WORDS;
 use steps::Answer;
 use steps::Framework;
 use steps::Opened;
 ghost use Prim.Native.Nat.{_≤_};
 ghost use lib.ListN.{length};
+ghost use Rattle.machine.specs.Constants.{machineMax};
 
 // What the output holds before a call.
 pub const MARK: u64 = 0x5a5a_5a5a_5a5a_5a5a;
@@ -45,12 +56,10 @@ pub fn lent_batch(
     )
 }
 
-const STATE_END: u64 = 4294967295;
-
 // Whether all_machines_ended says of a framework what its machines' states say.
 fn ended_as_it_is(fw: Framework) -> bool {
     let ended = framework::all_machines_ended(fw);
-    let machines = at_most_16(fw.machines);
+    let machines = at_most_max(fw.machines);
     let mut m: usize = 0;
     while m < machines {
         let r = fw.runtime[m];
@@ -63,31 +72,29 @@ fn ended_as_it_is(fw: Framework) -> bool {
 }
 
 // Whether the output from a place on is as it was.
-fn untouched(out: &[u64; 96], from: usize) -> bool {
-    let mut i = from;
-    while i < 96 {
+fn untouched(out: &[u64; OUTPUT_WORDS], from: usize) -> bool {
+    for i in from..OUTPUT_WORDS {
         if out[i] != MARK {
             return false;
         }
-        i += 1;
     }
     true
 }
 
 // Whether the state in which machine m starts has an action.
 fn starts_with_action(machines: &[u64], states: &[u64], m: usize) -> bool
-    requires { ⌜ m ≤ 16 ⌝ }
+    requires { ⌜ m ≤ machineMax ⌝ }
 {
-    let first = stream::word(machines, ROW_WORDS * m + 4);
-    if first < 8192 {
-        return stream::word(states, 58 * first as usize) != 0;
+    let first = stream::word(machines, MACHINE_WORDS * m + FIRST_STATE);
+    if first < INPUT as u64 {
+        return stream::word(states, STATE_WORDS * first as usize + ACTION) != 0;
     }
     true
 }
 
 // Whether the start states without an action have limit 0.
 fn start_limits(fw: Framework, machines: &[u64], states: &[u64]) -> bool {
-    let count = at_most_16(fw.machines);
+    let count = at_most_max(fw.machines);
     let mut m: usize = 0;
     while m < count {
         let r = fw.runtime[m];
@@ -102,7 +109,7 @@ fn start_limits(fw: Framework, machines: &[u64], states: &[u64]) -> bool {
 }
 
 // Of an answer whose words are these, beside the recorded one, with its framework.
-fn recorded_field(ours: &[u64; 256], theirs: &[u64; 256], fw: Framework) -> usize {
+fn recorded_field(ours: &[u64; ANSWER], theirs: &[u64; ANSWER], fw: Framework) -> usize {
     let field = difference(ours, theirs);
     if field < AGREED {
         return field;
@@ -113,17 +120,17 @@ fn recorded_field(ours: &[u64; 256], theirs: &[u64; 256], fw: Framework) -> usiz
     ENDED
 }
 
-pub fn opening_field(o: Opened, theirs: &[u64; 256], machines: &[u64], states: &[u64]) -> usize {
+pub fn opening_field(o: Opened, theirs: &[u64; ANSWER], machines: &[u64], states: &[u64]) -> usize {
     let fw = o.framework;
-    let count = at_most_16(fw.machines);
-    let mut ours = [0u64; 256];
+    let count = at_most_max(fw.machines);
+    let mut ours = [0u64; ANSWER];
     put_answer(
         &mut ours,
         o.refusal,
         0,
         o.chance_used,
         o.value_used,
-        &[0u64; 96],
+        &[0u64; OUTPUT_WORDS],
         fw,
         count,
     );
@@ -141,10 +148,15 @@ pub fn opening_field(o: Opened, theirs: &[u64; 256], machines: &[u64], states: &
 }
 
 // Of a call on `before`, whose output was all marks.
-pub fn call_field(before: Framework, a: Answer, out: &[u64; 96], theirs: &[u64; 256]) -> usize {
+pub fn call_field(
+    before: Framework,
+    a: Answer,
+    out: &[u64; OUTPUT_WORDS],
+    theirs: &[u64; ANSWER],
+) -> usize {
     let fw = a.framework;
-    let count = at_most_16(fw.machines);
-    let mut ours = [0u64; 256];
+    let count = at_most_max(fw.machines);
+    let mut ours = [0u64; ANSWER];
     put_answer(
         &mut ours,
         a.refusal,
@@ -162,7 +174,7 @@ pub fn call_field(before: Framework, a: Answer, out: &[u64; 96], theirs: &[u64; 
     if a.refusal != 0 {
         return refused_field(a.refusal, before, a, out);
     }
-    if untouched(out, ROW_WORDS * at_most_16(a.actions)) {
+    if untouched(out, ROW_WORDS * at_most_max(a.actions)) {
         return AGREED;
     }
     OUTPUT
@@ -170,9 +182,14 @@ pub fn call_field(before: Framework, a: Answer, out: &[u64; 96], theirs: &[u64; 
 
 // Of a call that must be refused so: nothing is drawn, and the framework is as it was in all it
 // holds, the rows of unused machines too.
-pub fn refused_field(refusal: u64, before: Framework, a: Answer, out: &[u64; 96]) -> usize {
+pub fn refused_field(
+    refusal: u64,
+    before: Framework,
+    a: Answer,
+    out: &[u64; OUTPUT_WORDS],
+) -> usize {
     let after = a.framework;
-    let mut ours = [0u64; 256];
+    let mut ours = [0u64; ANSWER];
     put_answer(
         &mut ours,
         a.refusal,
@@ -181,10 +198,10 @@ pub fn refused_field(refusal: u64, before: Framework, a: Answer, out: &[u64; 96]
         a.value_used,
         out,
         after,
-        16,
+        MACHINE_MAX,
     );
-    let mut theirs = [0u64; 256];
-    put_answer(&mut theirs, refusal, 0, 0, 0, out, before, 16);
+    let mut theirs = [0u64; ANSWER];
+    put_answer(&mut theirs, refusal, 0, 0, 0, out, before, MACHINE_MAX);
     if untouched(out, 0) {
         return difference(&ours, &theirs);
     }
@@ -194,19 +211,19 @@ pub fn refused_field(refusal: u64, before: Framework, a: Answer, out: &[u64; 96]
 // Of an opening that must be refused so: its framework is all zero.
 pub fn refused_opening_field(refusal: u64, o: Opened) -> usize {
     let fw = o.framework;
-    let mut ours = [0u64; 256];
+    let mut ours = [0u64; ANSWER];
     put_answer(
         &mut ours,
         o.refusal,
         0,
         o.chance_used,
         o.value_used,
-        &[0u64; 96],
+        &[0u64; OUTPUT_WORDS],
         fw,
-        16,
+        MACHINE_MAX,
     );
-    let mut theirs = [0u64; 256];
+    let mut theirs = [0u64; ANSWER];
     theirs[0] = refusal;
-    theirs[ROWS_AT] = 155;
+    theirs[ROWS_AT] = STATE_MOST as u64;
     difference(&ours, &theirs)
 }

@@ -2,13 +2,17 @@
 // of each answer and of the framework's state after each call, and besides, on each case, calls
 // that no input of linkrun can make (damage.rt). Standard input is the corpus.
 mod answer;
-mod corpus;
 mod damage;
 mod judge;
 mod tally;
 
-use answer::ROW_WORDS;
-use answer::at_most_16;
+use answer::at_most_max;
+use corpus::ANSWER;
+use corpus::INPUT;
+use corpus::OUTPUT_WORDS;
+use corpus::OWN_WORDS;
+use corpus::ROWS_AT;
+use machine::constants::ROW_WORDS;
 use steps::Answer;
 use steps::Framework;
 use steps::Opened;
@@ -17,12 +21,6 @@ ghost use mathlib.Core.Path.{_≡_};
 ghost use Prim.Native.Nat.{_+_, _≤_};
 ghost use lib.ListN.{length};
 ghost use Rattle.stream.specs.Stream.{checkOf, nextCall};
-
-// The words of the longest input.
-const INPUT: u64 = 8192;
-
-// The one kind of case there is: an input of linkrun.
-const KIND: u64 = 1;
 
 // More cases than a corpus has.
 const CASES: u64 = 1000000;
@@ -36,16 +34,10 @@ struct Turn {
 // Between two calls of a case: where the tapes go on, and the same.
 struct Between {
     framework: Framework,
-    chance_at: usize,
-    value_at: usize,
+    chance_at: u64,
+    value_at: u64,
     tally: Tally,
     more: bool,
-}
-
-fn at_most(n: usize, most: usize) -> usize
-    ensures { λ r. ⌜ r ≤ most ⌝ }
-{
-    if n < most { n } else { most }
 }
 
 fn broken(t: Tally, call: u64) -> Turn {
@@ -56,10 +48,10 @@ fn broken(t: Tally, call: u64) -> Turn {
 }
 
 // Refusal 21, and nothing more.
-fn unread_input(t: Tally, refusal: u64, theirs: &[u64; 256]) -> Turn {
-    let mut ours = [0u64; 256];
+fn unread_input(t: Tally, refusal: u64, theirs: &[u64; ANSWER]) -> Turn {
+    let mut ours = [0u64; ANSWER];
     ours[0] = refusal;
-    ours[4] = 11;
+    ours[ROWS_AT] = OWN_WORDS as u64;
     let field = answer::difference(&ours, theirs);
     Turn {
         tally: tally::recorded(t, 0, field),
@@ -67,31 +59,13 @@ fn unread_input(t: Tally, refusal: u64, theirs: &[u64; 256]) -> Turn {
     }
 }
 
-// The place on a tape after a call.
-fn taken(at: usize, used: u64) -> usize {
-    numbers::saturating_add(at as u64, used) as usize
-}
-
-fn stopped(b: Between, call: u64) -> Between {
-    let fw = b.framework;
-    let t = b.tally;
-    let turn = broken(t, call);
-    let tally = turn.tally;
-    Between {
-        framework: fw,
-        chance_at: b.chance_at,
-        value_at: b.value_at,
-        tally: tally,
-        more: false,
-    }
-}
-
-fn after_call(a: Answer, chance_at: usize, value_at: usize, tally: Tally) -> Between {
+// Behind a call that got its tapes from these places on.
+fn after_call(a: Answer, chance_at: u64, value_at: u64, tally: Tally) -> Between {
     let fw = a.framework;
     Between {
         framework: fw,
-        chance_at: taken(chance_at, a.chance_used),
-        value_at: taken(value_at, a.value_used),
+        chance_at: numbers::saturating_add(chance_at, a.chance_used),
+        value_at: numbers::saturating_add(value_at, a.value_used),
         tally: tally,
         more: true,
     }
@@ -105,15 +79,15 @@ fn judged_call(
     at: usize,
     chances: &[f32],
     values: &[f64],
-    theirs: &[u64; 256],
+    theirs: &[u64; ANSWER],
 ) -> Between
     requires { ⌜ (checkOf (now words) ≡ 0) × (nextCall (now words) at ≤ length (now words)) ⌝ }
 {
     let fw = b.framework;
-    let chance_at = at_most(b.chance_at, chances.len());
-    let value_at = at_most(b.value_at, values.len());
-    let room = ROW_WORDS * at_most_16(fw.machines);
-    let mut out = [judge::MARK; 96];
+    let chance_at = numbers::smaller(b.chance_at, chances.len() as u64) as usize;
+    let value_at = numbers::smaller(b.value_at, values.len() as u64) as usize;
+    let room = ROW_WORDS * at_most_max(fw.machines);
+    let mut out = [judge::MARK; OUTPUT_WORDS];
     let a = judge::lent_batch(
         fw,
         stream::machine_table(words),
@@ -128,7 +102,7 @@ fn judged_call(
     );
     let t = b.tally;
     let tally = tally::recorded(t, call, judge::call_field(fw, a, &out, theirs));
-    after_call(a, chance_at, value_at, tally)
+    after_call(a, chance_at as u64, value_at as u64, tally)
 }
 
 fn replay_call(
@@ -141,11 +115,16 @@ fn replay_call(
 ) -> Between
     requires { ⌜ (checkOf (now words) ≡ 0) × (nextCall (now words) at ≤ length (now words)) ⌝ }
 {
-    let mut theirs = [0u64; 256];
+    let mut theirs = [0u64; ANSWER];
     if corpus::read_answer(&mut theirs) {
         return judged_call(b, call, words, at, chances, values, &theirs);
     }
-    stopped(b, call)
+    let t = b.tally;
+    let tally = tally::recorded(t, call, tally::CORPUS);
+    let mut r = b;
+    r.tally = tally;
+    r.more = false;
+    r
 }
 
 // All calls of an input behind its opening.
@@ -188,7 +167,13 @@ fn replay_opening(words: &[u64], values: &[f64]) -> Opened
 }
 
 // The opening of an input and its calls.
-fn replay_run(t: Tally, words: &[u64], chances: &[f32], values: &[f64], theirs: &[u64; 256]) -> Turn
+fn replay_run(
+    t: Tally,
+    words: &[u64],
+    chances: &[f32],
+    values: &[f64],
+    theirs: &[u64; ANSWER],
+) -> Turn
     requires { ⌜ checkOf (now words) ≡ 0 ⌝ }
 {
     let o = replay_opening(words, values);
@@ -205,8 +190,8 @@ fn replay_run(t: Tally, words: &[u64], chances: &[f32], values: &[f64], theirs: 
     let fw = o.framework;
     let first = Between {
         framework: fw,
-        chance_at: taken(0, o.chance_used),
-        value_at: taken(0, o.value_used),
+        chance_at: o.chance_used,
+        value_at: o.value_used,
         tally: t,
         more: true,
     };
@@ -219,13 +204,13 @@ fn replay_run(t: Tally, words: &[u64], chances: &[f32], values: &[f64], theirs: 
 }
 
 // An input with its tapes as floats.
-fn replay_input(t: Tally, words: &[u64], theirs: &[u64; 256]) -> Turn
-    requires { ⌜ (checkOf (now words) ≡ 0) × (length (now words) ≤ 8192) ⌝ }
+fn replay_input(t: Tally, words: &[u64], theirs: &[u64; ANSWER]) -> Turn
+    requires { do ⌜ (checkOf (now words) ≡ 0) × (length (now words) ≤ (← ⟦INPUT⟧)) ⌝ }
 {
     let chance_words = stream::chance_words(words);
     let value_words = stream::value_words(words);
-    let mut chances = [0.0f32; 8192];
-    let mut values = [0.0f64; 8192];
+    let mut chances = [0.0f32; INPUT];
+    let mut values = [0.0f64; INPUT];
     text::put_chances(chance_words, &mut chances);
     text::put_values(value_words, &mut values);
     replay_run(
@@ -247,13 +232,13 @@ fn call_count(words: &[u64], refusal: u64) -> u64 {
 
 // A case's input, then its answers.
 fn replay_case(t: Tally, words: &[u64]) -> Turn
-    requires { ⌜ length (now words) ≤ 8192 ⌝ }
+    requires { do ⌜ length (now words) ≤ (← ⟦INPUT⟧) ⌝ }
 {
     let mut calls = [0u64; 1];
     if !corpus::read_words(&mut calls, 0, 1) {
         return broken(t, 0);
     }
-    let mut theirs = [0u64; 256];
+    let mut theirs = [0u64; ANSWER];
     if !corpus::read_answer(&mut theirs) {
         return broken(t, 0);
     }
@@ -269,28 +254,19 @@ fn replay_case(t: Tally, words: &[u64]) -> Turn
 
 // The next case, where there is one.
 fn replay_next(t: Tally) -> Turn {
-    let mut head = [0u64; 2];
-    if !corpus::read_words(&mut head, 0, 1) {
+    let mut words = [0u64; INPUT];
+    let input = corpus::read_input(&mut words);
+    if input.found == corpus::END {
         return Turn {
             tally: t,
             more: false,
         };
     }
     let t = tally::next_case(t);
-    if !corpus::read_words(&mut head, 1, 1) {
+    if input.found == corpus::BROKEN {
         return broken(t, 0);
     }
-    if head[0] != KIND {
-        return broken(t, 0);
-    }
-    if INPUT < head[1] {
-        return broken(t, 0);
-    }
-    let count = head[1] as usize;
-    let mut words = [0u64; 8192];
-    if !corpus::read_words(&mut words, 0, count) {
-        return broken(t, 0);
-    }
+    let count = input.count;
     replay_case(t, &words[..count])
 }
 

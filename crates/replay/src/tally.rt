@@ -1,4 +1,5 @@
 // What was compared, and what differed.
+use corpus::ANSWER;
 
 // Cases and calls of the corpus, calls of our own on damaged input, and how many of both agreed.
 pub struct Tally {
@@ -11,19 +12,19 @@ pub struct Tally {
 
 // What a call differed in, as a difference prints it: the first place of its answer's words
 // (answer.rt) at which they differ, or one of these.
-pub const AGREED: usize = 256;
+pub const AGREED: usize = ANSWER;
 
 // Output words behind the rows were written.
-pub const OUTPUT: usize = 257;
+pub const OUTPUT: usize = ANSWER + 1;
 
 // all_machines_ended
-pub const ENDED: usize = 258;
+pub const ENDED: usize = ANSWER + 2;
 
 // A start state without an action has a limit.
-pub const LIMIT: usize = 259;
+pub const LIMIT: usize = ANSWER + 3;
 
 // The corpus itself is cut, or of a kind that is not known here.
-pub const CORPUS: usize = 260;
+pub const CORPUS: usize = ANSWER + 4;
 
 // At most so many differences are printed.
 const PRINTED: u64 = 10;

@@ -7,10 +7,10 @@ use lib.Dec.{T, eqb}
 use lib.Ieee.{Float, binary64, fits}
 use Rattle.steps.specs.Events.{Tables}
 use Rattle.steps.specs.Framework.{opening}
-use Rattle.steps.specs.Budget.{Call, answerOf, Ledger, empty, counted, returned, returnsPadding, afterCall, ledger, Spends, Lists, packets, Budgets}
+use Rattle.steps.specs.Budget.{Call, Ledger, empty, counted, returned, returnsPadding, afterCall, ledger, Spends, Lists, packets, Budgets}
 use Rattle.steps.specs.Budget.Theorem.{no-budget-overdrawn}
 use Rattle.steps.specs.declared.Framework.{Framework}
-use Rattle.sender.specs.Reply.{replyOf}
+use Rattle.sender.specs.Reply.{Promised}
 use Rattle.sender.specs.declared.Reply.{Reply}
 
 -- a call that was made: what was lent, and what it left: the framework, the reply and the output
@@ -20,17 +20,16 @@ pub record Made : Type 0 where
   pub reply : Reply
   pub out : List ℕ
 
--- what `maybenot_batch` promises of a call on the framework x
-abbrev pub Promised : Framework → Made → Type 0
-Promised x m =
-    (m .framework ≡ answerOf x (m .call) .answer .framework)
-    × (m .reply ≡ replyOf (answerOf x (m .call) .answer))
-    × (m .out ≡ answerOf x (m .call) .out)
+-- it is a call of `maybenot_batch` on the framework x: it left what the contract promises
+abbrev pub Kept : Framework → Made → Type 0
+Kept x m =
+    let c = m .call in
+    Promised x (c .tables) (c .time) (c .events) (c .tapes) (c .out) (m .framework) (m .reply) (m .out)
 
 -- calls in a row on one framework, which nobody else writes
 abbrev pub History : Framework → List Made → Type 0
 History x [] = Unit
-History x (m ∷ ms) = Promised x m × History (m .framework) ms
+History x (m ∷ ms) = Kept x m × History (m .framework) ms
 
 -- ---- the ledger of what was made, by the replies and the outputs alone
 abbrev pub afterMade : Ledger → Made → Ledger
@@ -51,8 +50,8 @@ ListsOf tables l (m ∷ ms) =
     × ListsOf tables (afterMade l m) ms
 
 -- ---- it is the ledger of the same calls by value
-after-is : (l : Ledger) (x : Framework) (m : Made) → Promised x m → afterMade l m ≡ afterCall l x (m .call)
-after-is l x m h = rw (h .1, h .2)
+after-is : (l : Ledger) (x : Framework) (m : Made) → Kept x m → afterMade l m ≡ afterCall l x (m .call)
+after-is l x m h = rw (h .reply, h .output)
 
 ledger-is : (l : Ledger) (x : Framework) (ms : List Made) → History x ms → ledgerOf l ms ≡ ledger l x (map (λ m. m .call) ms)
 unfolding ledger
@@ -60,15 +59,15 @@ ledger-is l x [] h = refl
 ledger-is l x (m ∷ ms) h =
     ap (λ (k : Ledger). ledgerOf k ms) (after-is l x m (h .0))
     ∙ ledger-is (afterCall l x (m .call)) (m .framework) ms (h .1)
-    ∙ ap (λ (y : Framework). ledger (afterCall l x (m .call)) y (map (λ m. m .call) ms)) (h .0 .0)
+    ∙ ap (λ (y : Framework). ledger (afterCall l x (m .call)) y (map (λ m. m .call) ms)) (h .0 .framework)
 
 lists-are : (tables : Tables) (l : Ledger) (x : Framework) (ms : List Made) → History x ms → ListsOf tables l ms
     → Lists tables l x (map (λ m. m .call) ms)
 unfolding Lists
 lists-are tables l x [] h t = t
 lists-are tables l x (m ∷ ms) h t = (
-  λ e. t .0 (ap (λ (r : Reply). r .refusal) (h .0 .1) ∙ e),
-  subst (λ (y : Framework). Lists tables (afterCall l x (m .call)) y (map (λ m. m .call) ms)) (h .0 .0)
+  λ e. t .0 (ap (λ (r : Reply). r .refusal) (h .0 .reply) ∙ e),
+  subst (λ (y : Framework). Lists tables (afterCall l x (m .call)) y (map (λ m. m .call) ms)) (h .0 .framework)
       (lists-are tables (afterCall l x (m .call)) (m .framework) ms (h .1)
       (subst (λ (k : Ledger). ListsOf tables k ms) (after-is l x m (h .0)) (t .1))),
 )

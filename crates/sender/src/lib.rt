@@ -4,7 +4,7 @@ use steps::Opened;
 ghost use mathlib.Core.Path.{_≡_};
 ghost use Rattle.steps.specs.Framework as Spec;
 ghost use Rattle.events.specs.Run.{tables, tapes};
-ghost use Rattle.sender.specs.Reply.{replyOf};
+ghost use Rattle.sender.specs.Reply.{Promised};
 
 // A batch's answer without its framework: the refusal or 0, how many rows it wrote, and how many
 // draws of each tape it took.
@@ -57,8 +57,7 @@ pub extern "C" fn maybenot_batch(
     ensures { λ r. ⌜ (
         let T = tables (now (machines .entry)) (now (states .entry)) (now (transitions .entry)) in
         let D = tapes (now (chances .entry)) (now (values .entry)) in
-        let B = Spec.batch (now (fw .entry)) T time (now (events .entry)) D (now (out .entry)) in
-        (now (fw .exit) ≡ B .answer .framework) × (r ≡ replyOf (B .answer)) × (now (out .exit) ≡ B .out)) ⌝ }
+        Promised (now (fw .entry)) T time (now (events .entry)) D (now (out .entry)) (now (fw .exit)) r (now (out .exit))) ⌝ }
 {
     let a = framework::batch(
         *fw,

@@ -5,6 +5,7 @@ use mathlib.Core.Bool.{Bool, true, false, cond}
 use mathlib.Core.List.{List, [], _∷_, _++_}
 use lib.Dec.{eqb, ltb}
 use lib.ListN.{length, take, drop, getD}
+use Rattle.machine.specs.Constants.{machineWords, stateWords, transitionWords}
 use Rattle.text.specs.Words.{wordsTo}
 use Rattle.stream.specs.declared.Layout.{Layout}
 use Rattle.stream.specs.declared.Call.{Call}
@@ -41,16 +42,6 @@ abbrev pub callCount : List ℕ → ℕ
 callCount ws = getD ws 8 0
 
 -- ---- the parts behind the header, in their order
-
--- the words of a row of each table
-abbrev pub machineWords : ℕ
-machineWords = 6
-
-abbrev pub stateWords : ℕ
-stateWords = 58
-
-abbrev pub transitionWords : ℕ
-transitionWords = 2
 
 -- where each part starts: three tables, two tapes of a word a draw, then the calls
 abbrev pub machinesAt : ℕ

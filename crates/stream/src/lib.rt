@@ -1,4 +1,7 @@
 // The input of the printed run: its check, its parts and its calls.
+use machine::constants::MACHINE_WORDS;
+use machine::constants::STATE_WORDS;
+use machine::constants::TRANSITION_WORDS;
 ghost use mathlib.Core.Path.{_≡_};
 ghost use Prim.Native.Nat.{_+_, _*_, _-_, _≤_, _<_, min};
 ghost use lib.ListN.{length, getD, take, drop};
@@ -22,14 +25,8 @@ ghost use Rattle.stream.specs.Stream.{
 };
 ghost use Rattle.stream.specs.Within.{Ordered, placesOf, within};
 
-// The words of the header, and of a row of each table.
-const HEADER_WORDS: u64 = 9;
-
-const MACHINE_WORDS: u64 = 6;
-
-const STATE_WORDS: u64 = 58;
-
-const TRANSITION_WORDS: u64 = 2;
+// The words of the header.
+const HEADER_WORDS: usize = 9;
 
 // Where the parts behind the machine table start.
 pub struct Layout {
@@ -56,17 +53,17 @@ pub fn word(words: &[u64], k: usize) -> u64
 
 // The place behind so many rows from `at` on, in words that end at `end`: one past the end stands
 // for every place beyond it, so no count is too large.
-fn after(end: usize, at: usize, rows: u64, width: u64) -> usize
+fn after(end: usize, at: usize, rows: u64, width: usize) -> usize
     requires { ⌜ (0 < width) × (at ≤ end + 1) × (end < 2305843009213693952) ⌝ }
     ensures { λ r. ⌜ r ≡ min (at + width * rows) (end + 1) ⌝ }
 {
     if end < at {
         return end + 1;
     }
-    if (end - at) as u64 / width < rows {
+    if (end - at) / width < rows as usize {
         return end + 1;
     }
-    at + (width * rows) as usize
+    at + width * rows as usize
 }
 
 // The parts' places, one past the end for those beyond it.
@@ -169,7 +166,7 @@ pub fn machine_table(words: &[u64]) -> &[u64]
     ensures { λ r. ⌜ now r ≡ machineTable (now (words .entry)) ⌝ }
 {
     let l = parts(words);
-    between(words, HEADER_WORDS as usize, l.states)
+    between(words, HEADER_WORDS, l.states)
 }
 
 pub fn state_table(words: &[u64]) -> &[u64]

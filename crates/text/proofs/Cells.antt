@@ -6,6 +6,7 @@ use mathlib.Core.List.{List, [], _∷_, _++_, append-assoc, append-nil}
 use native.Mathlib.Omega.{arith}
 use lib.ListN.{length, take, drop, set, getD, length-append, length-drop}
 use lib.Seq.{set-split, take-all, length-take-le, drop-at, take-at, drop-cons, set-at, take-length, drop-length, drop-drop}
+use Rattle.machine.specs.Constants.{rowWords}
 use Rattle.text.specs.Columns.{mark, rests, right, column, cellIn, rowLine, rowIn}
 use Rattle.text.specs.Part.{through, from}
 
@@ -58,12 +59,12 @@ unfolding column cellIn
 celled out ys at w n h y = lent out (right w n) ys at w h y
 
 pub rowed : (out rows ys : List ℕ) (at i : ℕ) → at ≤ length out
-    → ys ≡ rowLine (from rows (6 * i)) ++ drop 41 (from out at) → through out at ys ≡ rowIn at rows i out
+    → ys ≡ rowLine (from rows (rowWords * i)) ++ drop 41 (from out at) → through out at ys ≡ rowIn at rows i out
 unfolding rowIn
 rowed out rows ys at i h y =
-    let t : from rows (6 * i) ≡ drop (6 * i) rows =
-    take-all (length rows - 6 * i) (drop (6 * i) rows) (omega (arith, length-drop (6 * i) rows)) in
-    lent out (rowLine (drop (6 * i) rows)) ys at 41 h (rw t at y)
+    let t : from rows (rowWords * i) ≡ drop (rowWords * i) rows =
+    take-all (length rows - rowWords * i) (drop (rowWords * i) rows) (omega (arith, length-drop (rowWords * i) rows)) in
+    lent out (rowLine (drop (rowWords * i) rows)) ys at 41 h (rw t at y)
 
 -- the text `out` is R, of k bytes, and then what stood in o at first
 pub record Upto (o R : List ℕ) (k : ℕ) (out : List ℕ) : Type 0 where

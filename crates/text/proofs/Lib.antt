@@ -1,4 +1,3 @@
 pub mod Cells
 pub mod Lines
-pub mod Bits
 pub mod Stores

@@ -6,6 +6,7 @@ use native.Mathlib.Numerals.{add-one}
 use native.Mathlib.Omega.{arith}
 use lib.ListN.{length, drop, set, getD, length-append}
 use lib.Seq.{drop-at, drop-drop}
+use Rattle.machine.specs.Constants.{rowWords}
 use Rattle.text.specs.Columns.{cellIn, callLine, rowLine, rowIn, rowLines, callText}
 use Rattle.text.proofs.Cells.{Upto, start, more, cell, cells, feed, length-right}
 
@@ -38,8 +39,8 @@ length-row-lines : (n : ℕ) (rows : List ℕ) → length (rowLines n rows) ≡ 
 unfolding rowLines
 length-row-lines zero rows = refl
 length-row-lines (suc n) rows =
-    length-append (rowLines n rows) (rowLine (drop (6 * n) rows))
-    ∙ omega (arith, length-row-lines n rows, length-row-line (drop (6 * n) rows))
+    length-append (rowLines n rows) (rowLine (drop (rowWords * n) rows))
+    ∙ omega (arith, length-row-lines n rows, length-row-line (drop (rowWords * n) rows))
 
 -- a call's text is as long as its lines
 pub length-call-text : (a b n : ℕ) (rows : List ℕ) → length (callText a b n rows) ≡ 15 + 41 * n
@@ -60,9 +61,9 @@ module _ (a b c : ℕ) (rows o : List ℕ) where
       → Lined (i + 1) (at + 41) out′
   unfolding rowLines rowIn
   one-row out out′ at i u y =
-      let w : List ℕ = rowLine (drop (6 * i) rows) in
+      let w : List ℕ = rowLine (drop (rowWords * i) rows) in
       rw (add-one, ← append-assoc L (rowLines i rows) w)
-      (more w 41 (length-row-line (drop (6 * i) rows)) u y)
+      (more w 41 (length-row-line (drop (rowWords * i) rows)) u y)
 
 module _ (a b c : ℕ) (rows o o₁ : List ℕ) (e : o₁ ≡ callLine a b c ++ drop 15 o) where
   -- what stood behind the call's line is what stood there at first

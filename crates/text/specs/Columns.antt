@@ -5,6 +5,7 @@ use mathlib.Core.Bool.{cond}
 use mathlib.Core.List.{List, [], _∷_, _++_}
 use lib.Dec.{eqb}
 use lib.ListN.{drop, take, getD}
+use Rattle.machine.specs.Constants.{rowWords}
 
 -- the byte of a column left of the last, where rest is the part of the number up to it: a space where that is 0
 abbrev pub mark : ℕ → ℕ
@@ -45,12 +46,12 @@ rowLine row =
 
 -- a text with the line of row i from the byte `at` on
 unfoldable pub rowIn : ℕ → List ℕ → ℕ → List ℕ → List ℕ
-rowIn at rows i out = take at out ++ (rowLine (drop (6 * i) rows) ++ drop (at + 41) out)
+rowIn at rows i out = take at out ++ (rowLine (drop (rowWords * i) rows) ++ drop (at + 41) out)
 
--- the lines of the first n rows, of six words each
+-- the lines of the first n rows
 unfoldable pub rowLines : ℕ → List ℕ → List ℕ
 rowLines zero rows = []
-rowLines (suc n) rows = rowLines n rows ++ rowLine (drop (6 * n) rows)
+rowLines (suc n) rows = rowLines n rows ++ rowLine (drop (rowWords * n) rows)
 
 -- what a call prints: its line, and then the line of each action's row
 unfoldable pub callText : ℕ → ℕ → ℕ → List ℕ → List ℕ

@@ -1,10 +1,12 @@
 // The text of the printed run on lent bytes, and words and floats out of its input.
+use machine::constants::ROW_WORDS;
 ghost use mathlib.Core.Path.{_≡_};
 ghost use mathlib.Core.List.{_++_};
 ghost use Prim.Native.Nat.{_+_, _*_, _≤_, _<_};
 ghost use lib.ListN.{length, getD, drop};
+ghost use Rattle.machine.specs.Constants.{rowWords};
 ghost use Rattle.text.specs.Columns.{column, callLine, cellIn, rowLine, rowIn, callText, mark as markOf};
-ghost use Rattle.text.specs.Words.{pairAt, wordAt, wordsTo, chanceOf, valueOf, chances, values};
+ghost use Rattle.text.specs.Words.{pairAt, wordAt, wordsTo, chances, values};
 
 // The byte in a column left of the last: a digit, or a space where no digit is left.
 fn mark(rest: u64) -> u8
@@ -66,7 +68,7 @@ pub fn call_line(line: &mut [u8], call: u64, refusal: u64, actions: u64)
 
 // A row's line: its six words in 4, 4, 4, 4, 12 and 12 columns, and a line feed.
 pub fn row_line(line: &mut [u8], row: &[u64])
-    requires { ⌜ (41 ≤ length (now line)) × (6 ≤ length (now row)) ⌝ }
+    requires { ⌜ (41 ≤ length (now line)) × (rowWords ≤ length (now row)) ⌝ }
     ensures { λ _. ⌜ now (line .exit)
         ≡ rowLine (now (row .entry)) ++ drop 41 (now (line .entry)) ⌝ }
 {
@@ -78,16 +80,16 @@ pub fn row_line(line: &mut [u8], row: &[u64])
 
 // The line of row i, from `at` on.
 fn put_row(out: &mut [u8], at: usize, rows: &[u64], i: usize)
-    requires { ⌜ (at + 41 ≤ length (now out)) × (6 * i + 6 ≤ length (now rows)) ⌝ }
+    requires { ⌜ (at + 41 ≤ length (now out)) × (rowWords * i + rowWords ≤ length (now rows)) ⌝ }
     ensures { λ _. ⌜ now (out .exit) ≡ rowIn at (now (rows .entry)) i (now (out .entry)) ⌝ }
 {
-    let row = 6 * i;
+    let row = ROW_WORDS * i;
     row_line(&mut out[at..], &rows[row..]);
 }
 
 // What a call prints: its line, and the lines of its rows. Answers how many bytes that is.
 pub fn call_text(out: &mut [u8], call: u64, refusal: u64, actions: usize, rows: &[u64]) -> usize
-    requires { ⌜ (15 + 41 * actions ≤ length (now out)) × (6 * actions ≤ length (now rows)) ⌝ }
+    requires { ⌜ (15 + 41 * actions ≤ length (now out)) × (rowWords * actions ≤ length (now rows)) ⌝ }
     ensures { λ r. ⌜ (r ≡ 15 + 41 * actions)
         × (now (out .exit)
         ≡ callText call refusal actions (now (rows .entry)) ++ drop r (now (out .entry))) ⌝ }
@@ -139,29 +141,6 @@ pub fn put_words(b: &[u8], k: usize, out: &mut [u64])
     }
 }
 
-// The f32 whose bits are the low 32 of a word, a NaN's pattern among them.
-fn chance_of(w: u64) -> f32
-    ensures { λ r. ⌜ r ≡ chanceOf w ⌝ }
-{
-    let n = (w % 4294967296) as u32;
-    if 2139095040 < n % 2147483648 {
-        0.0 / 0.0
-    } else {
-        f32::from_bits(n)
-    }
-}
-
-// The f64 whose bits are a word, a NaN's pattern among them.
-fn value_of(w: u64) -> f64
-    ensures { λ r. ⌜ r ≡ valueOf w ⌝ }
-{
-    if 9218868437227405312 < w % 9223372036854775808 {
-        0.0 / 0.0
-    } else {
-        f64::from_bits(w)
-    }
-}
-
 // Puts the chance draws of all of words at the start of out.
 pub fn put_chances(words: &[u64], out: &mut [f32])
     requires { ⌜ length (now words) ≤ length (now out) ⌝ }
@@ -170,7 +149,7 @@ pub fn put_chances(words: &[u64], out: &mut [f32])
 {
     let mut i = 0;
     while i < words.len() {
-        out[i] = chance_of(words[i]);
+        out[i] = numbers::f32_of_word(words[i]);
         i += 1;
     }
 }
@@ -183,7 +162,7 @@ pub fn put_values(words: &[u64], out: &mut [f64])
 {
     let mut i = 0;
     while i < words.len() {
-        out[i] = value_of(words[i]);
+        out[i] = numbers::f64_of_word(words[i]);
         i += 1;
     }
 }

@@ -8,25 +8,25 @@ use mathlib.Core.Bool.{Bool, true, false}
 use lib.ListN.{length, drop, length-take}
 use Rattle.stream.specs.Stream.{callAt}
 use Rattle.stream.specs.Inside.{call-inside, calls-few}
-use Rattle.run.specs.declared.Step.{Step}
+use Rattle.run.specs.declared.Standing.{Standing}
 use Rattle.run.specs.Run.{callsText, inputText, printed}
-use Rattle.linkrun.proofs.Handing.{turn, part, rest, behind, none-left, next-is}
+use Rattle.linkrun.proofs.Parts.{turn, part, behind, none-left, next-is}
 use borrow.Author.Needs.{needs}
 use Rattle.linkrun.proofs.calls.Statement.{statement}
 use Rattle.linkrun.proofs.calls.Tie as tie
 
 abbrev Inv-loop : tie.InvT-loop
-Inv-loop input words chances values line count text₀ s₀ from₀ i₀ text s from i =
+Inv-loop input words chances values count text₀ s₀ h₀ i₀ text s h i =
     (i ≤ count)
     × (length text ≡ 671)
     × (s .next ≡ callAt words i)
     × (s .chance ≤ length chances)
     × (s .value ≤ length values)
-    × (from ≤ 671 * (i + 1))
-    × (drop from (inputText input) ≡ callsText words (count - i) (i + 1) s)
+    × (h .from ≤ 671 * (i + 1))
+    × (drop (h .from) (inputText input) ≡ callsText words (count - i) (i + 1) s)
 
 abbrev μ-loop : tie.MeasureT-loop
-μ-loop input words chances values line count text₀ s₀ from₀ i₀ text s from i = count - i
+μ-loop input words chances values count text₀ s₀ h₀ i₀ text s h i = count - i
 
 word-requires : tie.Need-word-requires Inv-loop μ-loop
 word-requires c κs = search needs
@@ -85,59 +85,50 @@ hand-over-requires c κs =
     let w = t .before .before .word in
     let p = t .before .before .before .before .before .before .before in
     let ws = p .args .words .now in
-    part (printed ws (l .i + 1) (l .s)) _ (l .text) _ (drop (l .from) (inputText (p .args .input .now))) (o .result .bytes) (o .ensures .1 .0) (o .ensures .1 .1 .0)
-    (turn ws _ (w .result) (l .i) (l .s) (t .loop-test .taken) (l .inv .6))
-
-returns : tie.Need-returns Inv-loop μ-loop
-returns c = λ e. let z : _≡_ {A = Bool} false true = e in cc
-
-add-from : tie.Need-add-from Inv-loop μ-loop
-add-from c =
-    let o = c .before .before .before .before .one-call in
-    let t = c .before .before .before .before .before .before in
-    let w = t .before .before .word in
-    let p = t .before .before .before .before .before .before .before in
-    omega (arith, o .ensures .1 .1 .1, t .before .loop .inv .5, t .loop-test .taken, w .ensures, calls-few (p .args .words .now) (p .pre .0), p .pre .1)
+    let few = calls-few ws (p .pre .0) in (
+      part (printed ws (l .i + 1) (l .s)) _ (l .text) _ (drop (l .h .from) (inputText (p .args .input .now))) (o .result .bytes) (o .ensures .1 .0) (o .ensures .1 .1 .0)
+          (turn ws _ (w .result) (l .i) (l .s) (t .loop-test .taken) (l .inv .6)),
+      simp length-take (omega (arith, o .ensures .1 .1 .1, l .inv .5, t .loop-test .taken, w .ensures, few, p .pre .1)),
+    )
 
 add-i : tie.Need-add-i Inv-loop μ-loop
 add-i c =
-    let t = c .before .before .before .before .before .before .before in
+    let t = c .before .before .before .before .before .before in
     let w = t .before .before .word in
     let p = t .before .before .before .before .before .before .before in
     omega (arith, t .loop-test .taken, w .ensures, calls-few (p .args .words .now) (p .pre .0), p .pre .1)
 
 loop-less : tie.Need-loop-less Inv-loop μ-loop
-loop-less c = omega (arith, c .before .before .before .before .before .before .before .loop-test .taken)
+loop-less c = omega (arith, c .before .before .before .before .before .before .loop-test .taken)
 
 loop-again : tie.Need-loop-again Inv-loop μ-loop
 unfolding callAt
 loop-again c =
-    let o = c .before .before .before .before .before .one-call in
-    let t = c .before .before .before .before .before .before .before in
+    let o = c .before .before .before .before .one-call in
+    let t = c .before .before .before .before .before .before in
     let l = t .before .loop in
     let w = t .before .before .word in
     let p = t .before .before .before .before .before .before .before in
     let ws = p .args .words .now in
-    let text = drop (l .from) (inputText (p .args .input .now)) in
-    let e = turn ws text (w .result) (l .i) (l .s) (t .loop-test .taken) (l .inv .6) in
-    let n : o .result .step .next ≡ callAt ws (l .i + 1) = next-is ws (l .i) (l .s) (o .result .step) (o .ensures .0) (l .inv .2) in (
+    let text = inputText (p .args .input .now) in
+    let e = turn ws (drop (l .h .from) text) (w .result) (l .i) (l .s) (t .loop-test .taken) (l .inv .6) in
+    let n : o .result .stands .next ≡ callAt ws (l .i + 1) = next-is ws (l .i) (l .s) (o .result .stands) (o .ensures .0) (l .inv .2) in (
       omega (arith, t .loop-test .taken),
       o .kept .1 .1 .1 .1 .1 .0 ∙ l .inv .1,
       n,
       o .ensures .1 .1 .2,
       o .ensures .1 .1 .3,
-      omega (arith, o .ensures .1 .1 .1, l .inv .5),
-      behind (l .from) (o .result .bytes) (inputText (p .args .input .now)) _
-          (rest (printed ws (l .i + 1) (l .s)) _ (l .text) _ text (o .result .bytes) (o .ensures .1 .0) (o .ensures .1 .1 .0) e)
-          ∙ ap (λ (x : Step). callsText ws (w .result - (l .i + 1)) (l .i + 1 + 1) x) (sym (o .ensures .0)),
+      omega (arith, o .ensures .1 .1 .1, l .inv .5, simp length-take at (c .before .hand-over .ensures)),
+      behind (printed ws (l .i + 1) (l .s)) _ (l .text) _ text (l .h .from) (o .result .bytes) _ (o .ensures .1 .0) (o .ensures .1 .1 .0) e (c .before .hand-over .ensures)
+          ∙ ap (λ (x : Standing). callsText ws (w .result - (l .i + 1)) (l .i + 1 + 1) x) (sym (o .ensures .0)),
     )
 
-returns-2 : tie.Need-returns-2 Inv-loop μ-loop
-returns-2 c =
+returns : tie.Need-returns Inv-loop μ-loop
+returns c =
     let l = c .before .loop in
     let w = c .before .before .word in
     let p = c .before .before .before .before .before .before .before in
-    λ _. l .inv .6 ∙ none-left (p .args .words .now) (w .result - l .i) (l .i + 1) (l .s) (omega (arith, c .loop-test .left))
+    l .inv .6 ∙ none-left (p .args .words .now) (w .result - l .i) (l .i + 1) (l .s) (omega (arith, c .loop-test .left))
 
 pub calls-spec : {M : Type 1} → statement M
 calls-spec =
@@ -153,9 +144,7 @@ calls-spec =
     array-share-prefix-text
     slice-aggregate-hand-over
     hand-over-requires
-    returns
-    add-from
     add-i
     loop-less
     loop-again
-    returns-2)
+    returns)

@@ -1,13 +1,13 @@
 -- `linkrun::opening` meets its contract: its line is the first part of the run's text, and the calls print the rest.
 use native.Mathlib.Omega.{arith}
-use mathlib.Core.Path.{_≡_, sym, _∙_}
-use mathlib.Core.Bool.{Bool, true, false}
+use Prim.Native.Nat.{ℕ}
+use mathlib.Core.Path.{_≡_, sym, ap, _∙_}
 use mathlib.Core.List.{[]}
-use lib.ListN.{length, length-take}
+use lib.ListN.{length, drop, length-take}
 use Rattle.text.specs.Columns.{callText}
 use Rattle.text.proofs.Lines.{length-call-text}
 use Rattle.run.specs.Run.{inputText}
-use Rattle.linkrun.proofs.Handing.{part, rest, no-rows, opens, opens-refused, opens-accepted, stands}
+use Rattle.linkrun.proofs.Parts.{part, behind, no-rows, opens, opens-refused, opens-accepted, at-first}
 use borrow.Author.Needs.{needs}
 use Rattle.linkrun.proofs.opening.Statement.{statement}
 use Rattle.linkrun.proofs.opening.Tie as tie
@@ -24,47 +24,64 @@ slice-aggregate-call-text-2 c = search needs
 call-text-requires : tie.Need-call-text-requires
 call-text-requires c κs = search needs
 
+nothing-requires : tie.Need-nothing-requires
+nothing-requires c κs = search needs
+
 array-share-prefix-line : tie.Need-array-share-prefix-line
 array-share-prefix-line c = search needs
 
 slice-aggregate-hand-over : tie.Need-slice-aggregate-hand-over
 slice-aggregate-hand-over c =
-    let t = c .before .before .call-text in
+    let t = c .before .before .before .call-text in
     simp length-take (omega (arith, t .ensures .0, t .kept .0))
 
 hand-over-requires : tie.Need-hand-over-requires
 hand-over-requires c κs =
-    let t = c .before .before .call-text in
-    let o = c .before .before .before .before .before .start in
-    let p = c .before .before .before .before .before .before .before .before .before .before in
+    let h = c .before in
+    let none = h .nothing in
+    let t = h .before .before .call-text in
+    let o = h .before .before .before .before .before .start in
+    let p = h .before .before .before .before .before .before .before .before .before .before in
+    let text = inputText (p .args .input .now) in
     let refusal = o .result .refusal in
     let is = no-rows 0 refusal _ _ _ (t .result) (t .ensures .1) in
     let size : t .result ≡ length (callText 0 refusal 0 []) = t .ensures .0 ∙ sym (length-call-text 0 refusal 0 []) in
-    part (callText 0 refusal 0 []) _ _ _ (inputText (p .args .input .now)) (t .result) is size (p .pre .0 ∙ opens (p .args .words .now) (o .result) (o .ensures .0))
+    let all : drop (none .result .from) text ≡ text = ap (λ (k : ℕ). drop k text) (none .ensures) in
+    let left = all ∙ p .pre .0 ∙ opens (p .args .words .now) (o .result) (o .ensures .0) in (
+      part (callText 0 refusal 0 []) _ _ _ (drop (none .result .from) text) (t .result) is size left,
+      simp length-take (omega (arith, none .ensures, t .ensures .0)),
+    )
 
 returns : tie.Need-returns
 returns c =
-    λ e. let z : _≡_ {A = Bool} false true = e in cc
-
-returns-2 : tie.Need-returns-2
-returns-2 c =
-    let t = c .before .before .before .before .before .before .call-text in
-    let o = c .before .before .before .before .before .before .before .before .before .start in
-    let p = c .before .before .before .before .before .before .before .before .before .before .before .before .before .before in
+    let h = c .before .before .before .before in
+    let none = h .nothing in
+    let t = h .before .before .call-text in
+    let o = h .before .before .before .before .before .start in
+    let p = h .before .before .before .before .before .before .before .before .before .before in
+    let text = inputText (p .args .input .now) in
     let refusal = o .result .refusal in
     let is = no-rows 0 refusal _ _ _ (t .result) (t .ensures .1) in
     let size : t .result ≡ length (callText 0 refusal 0 []) = t .ensures .0 ∙ sym (length-call-text 0 refusal 0 []) in
-    λ _. rest (callText 0 refusal 0 []) [] _ _ (inputText (p .args .input .now)) (t .result) is size (p .pre .0 ∙ opens-refused (p .args .words .now) (o .result) (o .ensures .0) (c .if2 .taken))
+    let all : drop (none .result .from) text ≡ text = ap (λ (k : ℕ). drop k text) (none .ensures) in
+    let left = all ∙ p .pre .0 ∙ opens-refused (p .args .words .now) (o .result) (o .ensures .0) (c .if1 .taken) in
+    behind (callText 0 refusal 0 []) [] _ _ text (none .result .from) (t .result) _ is size left (c .before .before .hand-over .ensures)
 
 calls-requires : tie.Need-calls-requires
 calls-requires c κs =
-    let t = c .before .before .before .before .before .before .before .call-text in
-    let o = c .before .before .before .before .before .before .before .before .before .before .start in
-    let p = c .before .before .before .before .before .before .before .before .before .before .before .before .before .before .before in
+    let h = c .before .before .before .before .before in
+    let none = h .nothing in
+    let t = h .before .before .call-text in
+    let o = h .before .before .before .before .before .start in
+    let p = h .before .before .before .before .before .before .before .before .before .before in
+    let text = inputText (p .args .input .now) in
     let refusal = o .result .refusal in
     let is = no-rows 0 refusal _ _ _ (t .result) (t .ensures .1) in
     let size : t .result ≡ length (callText 0 refusal 0 []) = t .ensures .0 ∙ sym (length-call-text 0 refusal 0 []) in
-    let s = stands (p .args .words .now) (o .result) (o .ensures .0) in (
+    let all : drop (none .result .from) text ≡ text = ap (λ (k : ℕ). drop k text) (none .ensures) in
+    let left = all ∙ p .pre .0 ∙ opens-accepted (p .args .words .now) (o .result) (o .ensures .0) (c .before .if1 .left) in
+    let further = c .before .before .before .hand-over .ensures in
+    let s = at-first (p .args .words .now) (o .result) (o .ensures .0) in (
       p .pre .1,
       p .pre .2,
       p .pre .3,
@@ -72,12 +89,12 @@ calls-requires c κs =
       s .0,
       omega (arith, s .1),
       o .ensures .1,
-      omega (arith, t .ensures .0),
-      rest (callText 0 refusal 0 []) _ _ _ (inputText (p .args .input .now)) (t .result) is size (p .pre .0 ∙ opens-accepted (p .args .words .now) (o .result) (o .ensures .0) (c .before .if2 .left)),
+      omega (arith, none .ensures, t .ensures .0, simp length-take at further),
+      behind (callText 0 refusal 0 []) _ _ _ text (none .result .from) (t .result) _ is size left further,
     )
 
-returns-3 : tie.Need-returns-3
-returns-3 c = search needs
+returns-2 : tie.Need-returns-2
+returns-2 c = search needs
 
 pub opening-spec : {M : Type 1} → statement M
 opening-spec =
@@ -87,10 +104,10 @@ opening-spec =
     slice-aggregate-call-text
     slice-aggregate-call-text-2
     call-text-requires
+    nothing-requires
     array-share-prefix-line
     slice-aggregate-hand-over
     hand-over-requires
     returns
-    returns-2
     calls-requires
-    returns-3)
+    returns-2)

@@ -3,7 +3,7 @@ use native.Mathlib.Omega.{arith}
 use mathlib.Core.Path.{_≡_, ap, _∙_}
 use Rattle.steps.specs.Framework.{Batch}
 use Rattle.run.specs.Run.{batchAt}
-use Rattle.run.proofs.Called.{answered, stepped, prints, rows-few}
+use Rattle.run.proofs.Called.{answered, stood, prints, rows-few}
 use borrow.Author.Needs.{needs}
 use Rattle.run.proofs.one_call.Statement.{statement}
 use Rattle.run.proofs.one_call.Tie as tie
@@ -102,7 +102,7 @@ returns c =
     let o = b .ensures .1 ∙ ap (λ (x : Batch). x .out) e in
     let p = prints ws s (p4 .args .i) (b .result) _ _ (p4 .args .line .now) (t .result) a o (t .ensures .0) (t .ensures .1) in (
       rw (c .before .further .ensures .0, c .further2 .ensures .0)
-          (stepped ws s (b .result) (call .result) ch vs a (call .ensures) (p4 .pre .5) (p4 .pre .6)),
+          (stood ws s (b .result) (call .result) ch vs a (call .ensures) (p4 .pre .5) (p4 .pre .6)),
       (
         p .0,
         (

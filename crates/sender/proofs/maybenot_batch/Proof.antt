@@ -123,7 +123,7 @@ module _ {M : Type 1} (𝓤 : URA M) (H : Heap 𝓤) (A : Atoms 𝓤) (W : Given
       → ent 𝓤 (⋆ 𝓤 H A (‵ (fobs γ (R .coded .code (r .framework))) ∷ ‵ (fbor κ₀ (Body (mem R) b o γ)) ∷ ‵ (flft κ₀ q₀) ∷ (‵ (flft κ₁ q₁) ⊛ ‵ (flft κ₂ q₂) ⊛ ‵ (flft κ₃ q₃) ⊛ ‵ (flft κ₄ q₄) ⊛ ‵ (flft κ₅ q₅) ⊛ ‵ (flft κ₆ q₆) ⊛ ‵ (flft κ₇ q₇) ⊛ ‵ ftrue) ∷ ‵ (ShrSlice (named 1) κ₁ u64 .own machines (slice-val machines ∷ [])) ∷ ‵ (ShrSlice (named 2) κ₂ u64 .own states (slice-val states ∷ [])) ∷ ‵ (ShrSlice (named 3) κ₃ u64 .own transitions (slice-val transitions ∷ [])) ∷ ‵ (ShrSlice (named 4) κ₄ u64 .own events (slice-val events ∷ [])) ∷ ‵ (ShrSlice (named 5) κ₅ f32 .own chances (slice-val chances ∷ [])) ∷ ‵ (ShrSlice (named 6) κ₆ f64 .own values (slice-val values ∷ [])) ∷ ‵ (finally u64 (out .name) z) ∷ [])) (Post (reply-val r))
   exits r w is z e same =
       qed W (‵ (fobs γ (R .coded .code (r .framework))) ∷ ‵ (fbor κ₀ (Body (mem R) b o γ)) ∷ ‵ (flft κ₀ q₀) ∷ (‵ (flft κ₁ q₁) ⊛ ‵ (flft κ₂ q₂) ⊛ ‵ (flft κ₃ q₃) ⊛ ‵ (flft κ₄ q₄) ⊛ ‵ (flft κ₅ q₅) ⊛ ‵ (flft κ₆ q₆) ⊛ ‵ (flft κ₇ q₇) ⊛ ‵ ftrue) ∷ ‵ (ShrSlice (named 1) κ₁ u64 .own machines (slice-val machines ∷ [])) ∷ ‵ (ShrSlice (named 2) κ₂ u64 .own states (slice-val states ∷ [])) ∷ ‵ (ShrSlice (named 3) κ₃ u64 .own transitions (slice-val transitions ∷ [])) ∷ ‵ (ShrSlice (named 4) κ₄ u64 .own events (slice-val events ∷ [])) ∷ ‵ (ShrSlice (named 5) κ₅ f32 .own chances (slice-val chances ∷ [])) ∷ ‵ (ShrSlice (named 6) κ₆ f64 .own values (slice-val values ∷ [])) ∷ ‵ (finally u64 (out .name) z) ∷ []) ∵
-      suffices ! _ (ends-at 𝓤 H A entry.ended stayed (entry.clauses 𝓤 H A at-mem run) W (((κ₀, (κ₁, (κ₂, (κ₃, (κ₄, (κ₅, (κ₆, (κ₇, tt)))))))), (q₀, (q₁, (q₂, (q₃, (q₄, (q₅, (q₆, (q₇, tt)))))))), tt, a, vals), tt) (reply-val r) (reply r) (r .framework, (tt, (tt, (tt, (tt, (tt, (tt, (tt, (z, tt))))))))) (tt, (tt, (tt, (tt, (tt, (tt, (tt, (tt, (same, tt)))))))))) $ says ! (λ i. e .0 i .framework, λ i. replyOf (e .0 i), e .1) $
+      suffices ! _ (ends-at 𝓤 H A entry.ended stayed (entry.clauses 𝓤 H A at-mem run) W (((κ₀, (κ₁, (κ₂, (κ₃, (κ₄, (κ₅, (κ₆, (κ₇, tt)))))))), (q₀, (q₁, (q₂, (q₃, (q₄, (q₅, (q₆, (q₇, tt)))))))), tt, a, vals), tt) (reply-val r) (reply r) (r .framework, (tt, (tt, (tt, (tt, (tt, (tt, (tt, (z, tt))))))))) (tt, (tt, (tt, (tt, (tt, (tt, (tt, (tt, (same, tt)))))))))) $ says ! (record { framework = λ i. e .0 i .framework; reply = λ i. replyOf (e .0 i); output = e .1 }) $
       move ! (2 ∷ 3 ∷ []) $ join ! $ frame ! $ nothing ! $ move ! (9 ∷ 0 ∷ []) $ fjoin ! $ move ! (8 ∷ 0 ∷ []) $ fjoin ! $ move ! (7 ∷ 0 ∷ []) $ fjoin ! $ move ! (6 ∷ 0 ∷ []) $ fjoin ! $ owned ! u64 (Is u64) (uint-makes 𝓤 H A W w64) time _ (refl, time-fits) $ fjoin ! $ move ! (5 ∷ 0 ∷ []) $ fjoin ! $ move ! (4 ∷ 0 ∷ []) $ fjoin ! $ move ! (3 ∷ 0 ∷ []) $ fjoin ! $ move ! (1 ∷ 2 ∷ []) $ feqI ! (List Val) (vptr b o ∷ []) (vptr b o ∷ []) refl $ fjoin3 ! $ fjoin ! $ owned ! Z.the-row (Is Z.the-row) (LL.makes Z.the-type Z′.the-plain 𝓤 H A) (reply r) _ (is-reply r w is) $ move ! (1 ∷ 0 ∷ []) $ done !
 
   module _ (C : Calls 𝓤 H) (Λ : Loops 𝓤 H) (fm : FmC 𝓤 H (W .laws) C) (known : Triple 𝓤 (C #core) (Core 𝓤 H A at-mem run)) where

@@ -1,14 +1,15 @@
--- `machines` stays within its array: the loop's invariant says that i is at most 17. Assumes nothing.
-use Prim.Native.Nat.{_≤_, _-_}
+-- `machines` stays within its array: the loop's invariant says that i is at most one more than the most machines. Assumes nothing.
+use Prim.Native.Nat.{_≤_, _+_, _-_}
 use borrow.Author.Needs.{needs}
+use Rattle.machine.specs.Constants.{machineMax}
 use Rattle.tables_test.proofs.machines.Statement.{statement}
 use Rattle.tables_test.proofs.machines.Tie as tie
 
 abbrev Inv-loop : tie.InvT-loop
-Inv-loop w₀ i₀ w i = i ≤ 17
+Inv-loop w₀ i₀ w i = i ≤ machineMax + 1
 
 abbrev μ-loop : tie.MeasureT-loop
-μ-loop w₀ i₀ w i = 17 - i
+μ-loop w₀ i₀ w i = machineMax + 1 - i
 
 array-write-w : tie.Need-array-write-w Inv-loop μ-loop
 array-write-w c = search needs

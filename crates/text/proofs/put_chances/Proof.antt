@@ -22,14 +22,14 @@ abbrev μ-loop : tie.MeasureT-loop
 loop-holds : tie.Need-loop-holds Inv-loop μ-loop
 loop-holds c = (omega arith, refl, refl)
 
-mul-chance-of : tie.Need-mul-chance-of Inv-loop μ-loop
-mul-chance-of c = search needs
+mul-f32-of-word : tie.Need-mul-f32-of-word Inv-loop μ-loop
+mul-f32-of-word c = search needs
 
-shared-slice-read-chance-of : tie.Need-shared-slice-read-chance-of Inv-loop μ-loop
-shared-slice-read-chance-of c = search needs
+shared-slice-read-f32-of-word : tie.Need-shared-slice-read-f32-of-word Inv-loop μ-loop
+shared-slice-read-f32-of-word c = search needs
 
-chance-of-requires : tie.Need-chance-of-requires Inv-loop μ-loop
-chance-of-requires c κs = search needs
+f32-of-word-requires : tie.Need-f32-of-word-requires Inv-loop μ-loop
+f32-of-word-requires c κs = search needs
 
 mul-out : tie.Need-mul-out Inv-loop μ-loop
 mul-out c = search needs
@@ -47,7 +47,7 @@ loop-again : tie.Need-loop-again Inv-loop μ-loop
 loop-again c =
     let l = c .before .before .before .loop in
     let a = c .before .before .before .before .before .before .args in
-    let r = c .chance-of in (
+    let r = c .f32-of-word in (
       omega arith,
       simp length-set (l .inv .1),
       taped chanceOf (a .words .now) (a .out .now) (l .out) (l .i) (r .result) (omega arith) (omega arith)
@@ -71,9 +71,9 @@ put-chances-spec =
     Inv-loop
     μ-loop
     loop-holds
-    mul-chance-of
-    shared-slice-read-chance-of
-    chance-of-requires
+    mul-f32-of-word
+    shared-slice-read-f32-of-word
+    f32-of-word-requires
     mul-out
     slice-write-out
     add-i

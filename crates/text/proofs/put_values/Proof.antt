@@ -22,14 +22,14 @@ abbrev μ-loop : tie.MeasureT-loop
 loop-holds : tie.Need-loop-holds Inv-loop μ-loop
 loop-holds c = (omega arith, refl, refl)
 
-mul-value-of : tie.Need-mul-value-of Inv-loop μ-loop
-mul-value-of c = search needs
+mul-f64-of-word : tie.Need-mul-f64-of-word Inv-loop μ-loop
+mul-f64-of-word c = search needs
 
-shared-slice-read-value-of : tie.Need-shared-slice-read-value-of Inv-loop μ-loop
-shared-slice-read-value-of c = search needs
+shared-slice-read-f64-of-word : tie.Need-shared-slice-read-f64-of-word Inv-loop μ-loop
+shared-slice-read-f64-of-word c = search needs
 
-value-of-requires : tie.Need-value-of-requires Inv-loop μ-loop
-value-of-requires c κs = search needs
+f64-of-word-requires : tie.Need-f64-of-word-requires Inv-loop μ-loop
+f64-of-word-requires c κs = search needs
 
 mul-out : tie.Need-mul-out Inv-loop μ-loop
 mul-out c = search needs
@@ -47,7 +47,7 @@ loop-again : tie.Need-loop-again Inv-loop μ-loop
 loop-again c =
     let l = c .before .before .before .loop in
     let a = c .before .before .before .before .before .before .args in
-    let r = c .value-of in (
+    let r = c .f64-of-word in (
       omega arith,
       simp length-set (l .inv .1),
       taped valueOf (a .words .now) (a .out .now) (l .out) (l .i) (r .result) (omega arith) (omega arith)
@@ -71,9 +71,9 @@ put-values-spec =
     Inv-loop
     μ-loop
     loop-holds
-    mul-value-of
-    shared-slice-read-value-of
-    value-of-requires
+    mul-f64-of-word
+    shared-slice-read-f64-of-word
+    f64-of-word-requires
     mul-out
     slice-write-out
     add-i

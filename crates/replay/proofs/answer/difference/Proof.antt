@@ -1,5 +1,5 @@
--- `replay::answer::difference` meets its contract: the words passed are the same in both.
-use Prim.Native.Nat.{ℕ, _≤_, _<_, _-_}
+-- `replay::answer::difference` meets its contract: the words passed are the same in both. The measure is what a u64 has left.
+use Prim.Native.Nat.{ℕ, _<_, _-_}
 use mathlib.Core.Path.{_≡_}
 use borrow.Author.Count.{below-more}
 use lib.ListN.{getD}
@@ -9,10 +9,10 @@ use Rattle.replay.proofs.answer.difference.Statement.{statement}
 use Rattle.replay.proofs.answer.difference.Tie as tie
 
 abbrev Inv-loop : tie.InvT-loop
-Inv-loop a b i₀ i = (i ≤ 256) × ((k : ℕ) → k < i → getD a k 0 ≡ getD b k 0)
+Inv-loop a b i₀ i = (k : ℕ) → k < i → getD a k 0 ≡ getD b k 0
 
 abbrev μ-loop : tie.MeasureT-loop
-μ-loop a b i₀ i = 256 - i
+μ-loop a b i₀ i = 18446744073709551616 - i
 
 loop-holds : tie.Need-loop-holds Inv-loop μ-loop
 loop-holds c = search needs
@@ -39,10 +39,10 @@ loop-less : tie.Need-loop-less Inv-loop μ-loop
 loop-less c = omega arith
 
 loop-again : tie.Need-loop-again Inv-loop μ-loop
-loop-again c = (omega arith, below-more _ _ (c .before .before .before .before .loop .inv .1) (omega arith))
+loop-again c = below-more _ _ (c .before .before .before .before .loop .inv) (omega arith)
 
 returns-2 : tie.Need-returns-2 Inv-loop μ-loop
-returns-2 c = search needs
+returns-2 c = (omega arith, λ k h. c .before .loop .inv k (omega (arith, h, c .loop-test .left)))
 
 pub difference-spec : {M : Type 1} → statement M
 difference-spec =

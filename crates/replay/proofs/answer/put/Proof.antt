@@ -1,15 +1,14 @@
 -- `replay::answer::put` is safe and ends.
 use borrow.Author.Needs.{needs}
 use Prim.Native.Nat.{_≤_, _-_}
-use lib.ListN.{length}
 use Rattle.replay.proofs.answer.put.Statement.{statement}
 use Rattle.replay.proofs.answer.put.Tie as tie
 
 abbrev Inv-loop : tie.InvT-loop
-Inv-loop out₀ at words i₀ out i = i ≤ length words
+Inv-loop out₀ at words n i₀ out i = i ≤ n
 
 abbrev μ-loop : tie.MeasureT-loop
-μ-loop out₀ at words i₀ out i = length words - i
+μ-loop out₀ at words n i₀ out i = n - i
 
 loop-holds : tie.Need-loop-holds Inv-loop μ-loop
 loop-holds c = search needs

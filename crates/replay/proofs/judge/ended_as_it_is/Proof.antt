@@ -13,8 +13,8 @@ abbrev μ-loop : tie.MeasureT-loop
 all-machines-ended-requires : tie.Need-all-machines-ended-requires Inv-loop μ-loop
 all-machines-ended-requires c κs = search needs
 
-at-most-16-requires : tie.Need-at-most-16-requires Inv-loop μ-loop
-at-most-16-requires c κs = search needs
+at-most-max-requires : tie.Need-at-most-max-requires Inv-loop μ-loop
+at-most-max-requires c κs = search needs
 
 loop-holds : tie.Need-loop-holds Inv-loop μ-loop
 loop-holds c = search needs
@@ -47,7 +47,7 @@ ended-as-it-is-spec =
     Inv-loop
     μ-loop
     all-machines-ended-requires
-    at-most-16-requires
+    at-most-max-requires
     loop-holds
     mul-r
     element-copy-out-r

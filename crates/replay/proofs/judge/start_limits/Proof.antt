@@ -10,8 +10,8 @@ Inv-loop machines states fw count m₀ m = m ≤ count
 abbrev μ-loop : tie.MeasureT-loop
 μ-loop machines states fw count m₀ m = count - m
 
-at-most-16-requires : tie.Need-at-most-16-requires Inv-loop μ-loop
-at-most-16-requires c κs = search needs
+at-most-max-requires : tie.Need-at-most-max-requires Inv-loop μ-loop
+at-most-max-requires c κs = search needs
 
 loop-holds : tie.Need-loop-holds Inv-loop μ-loop
 loop-holds c = search needs
@@ -46,7 +46,7 @@ start-limits-spec =
     (tie.spec
     Inv-loop
     μ-loop
-    at-most-16-requires
+    at-most-max-requires
     loop-holds
     mul-r
     element-copy-out-r

@@ -1,6 +1,7 @@
 -- `replay::judge::untouched` is safe and ends.
-use Prim.Native.Nat.{_-_}
+use Prim.Native.Nat.{_*_, _-_}
 use native.Mathlib.Omega.{arith}
+use Rattle.machine.specs.Constants.{machineMax, rowWords}
 use Rattle.replay.proofs.judge.untouched.Statement.{statement}
 use Rattle.replay.proofs.judge.untouched.Tie as tie
 
@@ -8,7 +9,7 @@ abbrev Inv-loop : tie.InvT-loop
 Inv-loop out from i₀ i = Unit {0}
 
 abbrev μ-loop : tie.MeasureT-loop
-μ-loop out from i₀ i = 96 - i
+μ-loop out from i₀ i = machineMax * rowWords - i
 
 loop-holds : tie.Need-loop-holds Inv-loop μ-loop
 loop-holds c = tt
