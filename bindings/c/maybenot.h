@@ -97,15 +97,15 @@ typedef struct maybenot_machine_runtime {
 typedef struct maybenot_framework {
     uint64_t machines;
     uint64_t current_time;
+    uint64_t signal_pending; /* 0 none, 1 all machines, 2 + m all but machine m */
     double max_padding_frac;
+    double max_blocking_frac;
+    uint64_t framework_start;
     uint64_t normal_sent_packets;
     uint64_t padding_sent_packets;
-    double max_blocking_frac;
     uint64_t blocking_duration;
     uint64_t blocking_started;
     uint64_t blocking_active; /* on where it is not 0 */
-    uint64_t signal_pending;  /* 0 none, 1 all machines, 2 + m all but machine m */
-    uint64_t framework_start;
     maybenot_machine_runtime runtime[MAYBENOT_MAX_MACHINES];
 } maybenot_framework;
 

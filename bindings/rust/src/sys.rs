@@ -43,17 +43,17 @@ pub struct MachineRuntime {
 pub struct Framework {
     pub machines: u64,
     pub current_time: u64,
+    /// 0 none, 1 all machines, 2 + m all but machine m.
+    pub signal_pending: u64,
     pub max_padding_frac: f64,
+    pub max_blocking_frac: f64,
+    pub framework_start: u64,
     pub normal_sent_packets: u64,
     pub padding_sent_packets: u64,
-    pub max_blocking_frac: f64,
     pub blocking_duration: u64,
     pub blocking_started: u64,
     /// On where it is not 0.
     pub blocking_active: u64,
-    /// 0 none, 1 all machines, 2 + m all but machine m.
-    pub signal_pending: u64,
-    pub framework_start: u64,
     pub runtime: [MachineRuntime; MAX_MACHINES],
 }
 
@@ -104,15 +104,15 @@ const _: () = {
     assert!(size_of::<Framework>() == 8 * FRAMEWORK_WORDS);
     assert!(offset_of!(Framework, machines) == 0);
     assert!(offset_of!(Framework, current_time) == 8);
-    assert!(offset_of!(Framework, max_padding_frac) == 16);
-    assert!(offset_of!(Framework, normal_sent_packets) == 24);
-    assert!(offset_of!(Framework, padding_sent_packets) == 32);
-    assert!(offset_of!(Framework, max_blocking_frac) == 40);
-    assert!(offset_of!(Framework, blocking_duration) == 48);
-    assert!(offset_of!(Framework, blocking_started) == 56);
-    assert!(offset_of!(Framework, blocking_active) == 64);
-    assert!(offset_of!(Framework, signal_pending) == 72);
-    assert!(offset_of!(Framework, framework_start) == 80);
+    assert!(offset_of!(Framework, signal_pending) == 16);
+    assert!(offset_of!(Framework, max_padding_frac) == 24);
+    assert!(offset_of!(Framework, max_blocking_frac) == 32);
+    assert!(offset_of!(Framework, framework_start) == 40);
+    assert!(offset_of!(Framework, normal_sent_packets) == 48);
+    assert!(offset_of!(Framework, padding_sent_packets) == 56);
+    assert!(offset_of!(Framework, blocking_duration) == 64);
+    assert!(offset_of!(Framework, blocking_started) == 72);
+    assert!(offset_of!(Framework, blocking_active) == 80);
     assert!(offset_of!(Framework, runtime) == 88);
 
     assert!(size_of::<Opened>() == 24 + size_of::<Framework>());

@@ -10,8 +10,10 @@ use lib.Dec.{eqb, leb, ltb}
 use lib.ListN.{getD, set}
 use borrow.Author.Tests.{eq-eqb, ne-eqb, eqb-true, leb-true, ltb-true}
 use Rattle.machine.specs.Event.{signal}
+use Rattle.machine.specs.Source.{Source}
+use Rattle.machine.specs.declared.source.Place.{Place}
 use Rattle.steps.specs.Transition.{noAction, withSignal, transition}
-use Rattle.steps.specs.Events.{Tables, Tapes, Run, Outcome, stop, go, andThen, each, numMachines, runtimeAt, withRuntime}
+use Rattle.steps.specs.Events.{Tables, Run, Outcome, stop, go, andThen, each, numMachines, runtimeAt, withRuntime}
 use Rattle.steps.specs.Events.{envOf, signalMachine, signalTurn, lastSignal, signals}
 use Rattle.steps.specs.declared.Framework.{Framework}
 use Rattle.steps.specs.declared.Shared.{Shared}
@@ -38,22 +40,22 @@ then-same (stop n) f g h = refl
 then-same (go x) f g h = h x
 
 -- after the round: nothing where it was the last signal, which is `taken` 0
-abbrev after : Tables → Tapes → ℕ → Run → Outcome
+abbrev after : Tables → Source Place → ℕ → Run → Outcome
 after T D taken y = cond (eqb taken 0) (go y) (lastSignal T D taken y)
 
 -- What is ahead of a round whose outcome is o: the machines from m to `end` are still to hear the signal taken.
 pub record Heard
-    (o : Outcome) (T : Tables) (D : Tapes) (taken m end : ℕ)
+    (o : Outcome) (T : Tables) (D : Source Place) (taken m end : ℕ)
     (fw : Framework) (actions : List TriggerAction) (s : Shared) : Type 0 where
   pub is : o ≡ andThen (each (signalTurn T D taken) (end - m) m (run fw actions s)) (after T D taken)
 
 -- the last machine, by itself
-alone : (T : Tables) (D : Tapes) (k : ℕ) (o : Outcome) →
+alone : (T : Tables) (D : Source Place) (k : ℕ) (o : Outcome) →
     andThen (andThen o (each (signalTurn T D 0) (k + 1 - (k + 1)) (k + 1))) (after T D 0) ≡ o
 alone T D k (stop n) = refl
 alone T D k (go x) = rw (each-end (signalTurn T D 0) (k + 1) (k + 1) x (omega arith))
 
-pub heard-all : (T : Tables) (D : Tapes) (fw : Framework) (actions : List TriggerAction) (s : Shared) →
+pub heard-all : (T : Tables) (D : Source Place) (fw : Framework) (actions : List TriggerAction) (s : Shared) →
     (s .«signal_pending» ≡ 0 → ⊥) →
     Heard (signals T D (run fw actions s)) T D (s .«signal_pending») 0 (numMachines fw) fw actions (withSignal s 0)
 unfolding signals
@@ -67,10 +69,10 @@ heard-all T D fw actions s h = record {
       (λ x. rw (ne-eqb _ _ h)));
 }
 
-abbrev signalled : Tables → Tapes → ℕ → Framework → List TriggerAction → Shared → Stepped
+abbrev signalled : Tables → Source Place → ℕ → Framework → List TriggerAction → Shared → Stepped
 signalled T D m fw actions s = transition (envOf T D fw m) signal (runtimeAt fw m) s (getD actions m noAction)
 
-module _ {o : Outcome} {T : Tables} {D : Tapes} {taken m end : ℕ}
+module _ {o : Outcome} {T : Tables} {D : Source Place} {taken m end : ℕ}
     {fw : Framework} {actions : List TriggerAction} {s : Shared}
     (a : Heard o T D taken m end fw actions s) where
   module _ (h : m < end) where

@@ -1,20 +1,21 @@
 -- The run over events, a turn at a time: of the event taken some machines are left, then the events that follow.
 use Prim.Native.Nat.{ℕ, zero, suc, _+_, _-_, _≤_, _<_}
-use mathlib.Core.Path.{_≡_, refl, sym, _∙_}
+use mathlib.Core.Path.{_≡_, refl, _∙_}
 use mathlib.Core.List.{List}
-use mathlib.Core.Bool.{Bool, true, false, not, _&&_, false≢true}
-use lib.Dec.{eqb}
-use Rattle.machine.specs.Constants.{stateEnd}
+use mathlib.Core.Bool.{Bool, true, false, false≢true}
 use native.Mathlib.Nat.{sub-zero}
 use native.Mathlib.Omega.{arith}
 use lib.ListN.{getD, set}
 use lib.Seq.{set-getD}
 use Rattle.machine.specs.Event.{eventOf}
+use Rattle.machine.specs.Constants.{counterNum}
+use Rattle.machine.specs.Source.{Source}
+use Rattle.machine.specs.declared.source.Place.{Place}
 use Rattle.machine.specs.declared.state.Next.{Next}
 use Rattle.machine.specs.declared.state.Next.the-variants.{State, Nothing}
-use Rattle.steps.specs.Transition.{Env, noAction, done, withChanceAt}
-use Rattle.steps.specs.Events.{Tables, Tapes, Run, Outcome, stop, go, andThen, each, numMachines, runtimeAt, withRuntime, statesOf}
-use Rattle.steps.specs.Events.{contextOf, envOf, countedBy, limitFalls, afterTransition, turn, machineTurn, firstFor, turnsFor, processEvent, kindAt, machineAt, eventTurn}
+use Rattle.steps.specs.Transition.{Env, noAction, done, withPlace}
+use Rattle.steps.specs.Events.{Tables, Run, Outcome, stop, go, andThen, each, numMachines, runtimeAt, withRuntime, statesOf}
+use Rattle.steps.specs.Events.{envOf, countedBy, withTotals, blockedNow, totalsAfter, limitFalls, afterTransition, turn, machineTurn, firstFor, turnsFor, processEvent, kindAt, machineAt, eventTurn}
 use Rattle.steps.specs.declared.Framework.{Framework}
 use Rattle.steps.specs.declared.MachineRuntime.{MachineRuntime}
 use Rattle.steps.specs.declared.Shared.{Shared}
@@ -22,15 +23,13 @@ use Rattle.steps.specs.declared.Step.{Step}
 use Rattle.steps.specs.declared.Stepped.{Stepped}
 use Rattle.steps.specs.declared.Stepped.the-variants.{Refused, Done}
 use Rattle.steps.specs.declared.TriggerAction.{TriggerAction}
-use Rattle.transition.specs.Choice.{choose, turn-missing, turn-chosen}
-use Rattle.transition.specs.Settle.Laws.{Settles}
-use Rattle.transition.specs.Transition.{goingAt}
-use Rattle.transition.specs.declared.choice.Choice.{Choice}
-use Rattle.transition.specs.declared.choice.Choice.the-variants.{Missing, Chosen}
-use Rattle.events.specs.Account.{onlyCounts, totalsAfter}
-use Rattle.events.specs.declared.account.Totals.{Totals}
+use Rattle.steps.specs.declared.Totals.{Totals}
+use Rattle.moves.specs.Choice.{choose}
+use Rattle.moves.specs.declared.choice.Choice.{Choice}
+use Rattle.moves.specs.declared.choice.Choice.the-variants.{Refused, Chosen}
+use Rattle.transition.specs.Transition.{goingAt, turn-missing, turn-chosen}
+use Rattle.events.specs.Account.{onlyCounts}
 use Rattle.events.specs.Run.{run}
-use Rattle.events.proofs.Counts.{withTotals, totalsOf, since, blocked-is, accounted-is}
 
 -- a turn of `each`
 module _ (f : ℕ → Run → Outcome) (n i : ℕ) (x : Run) where
@@ -45,52 +44,43 @@ module _ (f : ℕ → Run → Outcome) (n i : ℕ) (x : Run) where
 -- What is ahead of a run whose outcome is o: the machines from m to `end` of the event taken last, then the events
 -- from i on.
 pub record Ahead
-    (o : Outcome) (T : Tables) (D : Tapes) (es : List ℕ) (n kind machine blocked m end i : ℕ)
+    (o : Outcome) (T : Tables) (D : Source Place) (es : List ℕ) (n kind machine blocked m end i : ℕ)
     (fw : Framework) (actions : List TriggerAction) (s : Shared) : Type 0 where
   pub is : o ≡ andThen
       (each (machineTurn T D kind machine blocked) (end - m) m (run fw actions s))
       (each (eventTurn T D es) (n - i) i)
 
 pub all-ahead :
-    (T : Tables) (D : Tapes) (es : List ℕ) (n : ℕ) (fw : Framework) (actions : List TriggerAction) (s : Shared) →
+    (T : Tables) (D : Source Place) (es : List ℕ) (n : ℕ) (fw : Framework) (actions : List TriggerAction) (s : Shared) →
     Ahead (each (eventTurn T D es) n 0 (run fw actions s)) T D es n 0 0 0 0 0 0 fw actions s
 unfolding each
 all-ahead T D es n fw actions s = record { is = rw sub-zero }
 
-abbrev turned : Tables → Tapes → ℕ → ℕ → ℕ → ℕ → Framework → List TriggerAction → Shared → Stepped
+abbrev turned : Tables → Source Place → ℕ → ℕ → ℕ → ℕ → Framework → List TriggerAction → Shared → Stepped
 turned T D kind machine blocked m fw actions s =
     turn (envOf T D fw m) kind (limitFalls kind machine m) blocked (runtimeAt fw m) s (getD actions m noAction)
 
 -- ---- a machine's turn, by its choice
-abbrev choiceAt : Tables → Tapes → ℕ → ℕ → Framework → Shared → Choice
+abbrev choiceAt : Tables → Source Place → ℕ → ℕ → Framework → Shared → Choice
 choiceAt T D kind m fw s =
-    choose (statesOf T m) (T .transitions) (D .chances) (runtimeAt fw m .«current_state») (eventOf kind) (s .«chance_at»)
+    choose (statesOf T m) (T .transitions) (D .chance) (runtimeAt fw m .«current_state») (eventOf kind) (s .place)
 
-abbrev goingOn : Tables → Tapes → ℕ → ℕ → ℕ → Framework → List TriggerAction → Shared → Next → ℕ → Stepped
+abbrev goingOn : Tables → Source Place → ℕ → ℕ → ℕ → Framework → List TriggerAction → Shared → Next → Place → Stepped
 goingOn T D kind blocked m fw actions s next at =
-    goingAt 2 (envOf T D fw m) next (countedBy kind blocked (runtimeAt fw m)) (withChanceAt s at) (getD actions m noAction)
+    goingAt counterNum (envOf T D fw m) next (countedBy kind blocked (runtimeAt fw m)) (withPlace s at) (getD actions m noAction)
 
 -- where no state was chosen and no limit falls
 only : (E : Env) (falls : Bool) (next : Next) (r : MachineRuntime) (s : Shared) (p : TriggerAction) →
-    onlyCounts falls next ≡ true → afterTransition E falls (goingAt 2 E next r s p) ≡ done r s p false
+    onlyCounts falls next ≡ true → afterTransition E falls (goingAt counterNum E next r s p) ≡ done r s p false
 unfolding onlyCounts goingAt
 only E true next r s p e = absurd (false≢true e)
 only E false (State next) r s p e = absurd (false≢true e)
 only E false Nothing r s p e = refl
 
--- where no limit falls
-stays : (E : Env) (falls : Bool) (d : Step) → (falls && not (d .changed)) ≡ false → afterTransition E falls (Done d) ≡ Done d
-stays E falls d e = rw (both falls (not (d .changed)) (not (eqb (d .runtime .«current_state») stateEnd)) e)
-  where
-    both : (a b c : Bool) → (a && b) ≡ false → (a && b && c) ≡ false
-    both true true c e = absurd (false≢true (sym e))
-    both true false c e = refl
-    both false b c e = refl
-
 abbrev upTo : ℕ → ℕ → Framework → ℕ
 upTo kind machine fw = firstFor kind machine + turnsFor kind machine (numMachines fw)
 
-module _ {o : Outcome} {T : Tables} {D : Tapes} {es : List ℕ} {n kind machine blocked m end i : ℕ}
+module _ {o : Outcome} {T : Tables} {D : Source Place} {es : List ℕ} {n kind machine blocked m end i : ℕ}
     {fw : Framework} {actions : List TriggerAction} {s : Shared}
     (a : Ahead o T D es n kind machine blocked m end i fw actions s) where
   ahead-turn : m < end → {d : Step} → turned T D kind machine blocked m fw actions s ≡ Done d →
@@ -105,18 +95,18 @@ module _ {o : Outcome} {T : Tables} {D : Tapes} {es : List ℕ} {n kind machine 
   unfolding machineTurn
   ahead-stops h e = a .is ∙ rw (each-on (machineTurn T D kind machine blocked) end m (run fw actions s) h, e)
 
-  pub ahead-missing : m < end → {why : ℕ} → choiceAt T D kind m fw s ≡ Missing why → o ≡ stop why
-  ahead-missing h e =
+  pub ahead-missing : ((e k : ℕ) (at : Place) → D .attempt e k at ≡ at) → m < end → {why : ℕ} → choiceAt T D kind m fw s ≡ Refused why → o ≡ stop why
+  ahead-missing quiet h e =
       ahead-stops h
-      (turn-missing (envOf T D fw m) kind blocked (limitFalls kind machine m) (runtimeAt fw m) s (getD actions m noAction) e)
+      (turn-missing (envOf T D fw m) quiet kind blocked (limitFalls kind machine m) (runtimeAt fw m) s (getD actions m noAction) e)
 
-  module _ (h : m < end) {next : Next} {at : ℕ} (chosen : choiceAt T D kind m fw s ≡ Chosen next at) where
+  module _ (quiet : (e k : ℕ) (at : Place) → D .attempt e k at ≡ at) (h : m < end) {next : Next} {at : Place} (chosen : choiceAt T D kind m fw s ≡ Chosen next at) where
     -- the turn, by what follows the choice
     on :
         turned T D kind machine blocked m fw actions s
         ≡ afterTransition (envOf T D fw m) (limitFalls kind machine m) (goingOn T D kind blocked m fw actions s next at)
     on =
-        turn-chosen (envOf T D fw m) kind blocked (limitFalls kind machine m) (runtimeAt fw m) s (getD actions m noAction) chosen
+        turn-chosen (envOf T D fw m) quiet kind blocked (limitFalls kind machine m) (runtimeAt fw m) s (getD actions m noAction) chosen
 
     -- and the fall of its limit
     pub ahead-refused : {why : ℕ} →
@@ -130,25 +120,16 @@ module _ {o : Outcome} {T : Tables} {D : Tapes} {es : List ℕ} {n kind machine 
         (withRuntime fw (set (fw .runtime) m (d .runtime))) (set actions m (d .action)) (d .shared)
     ahead-done g = ahead-turn h (on ∙ g)
 
-    -- the short way
-    pub ahead-settled : {d : Step} →
-        Settles (statesOf T m) (D .values) (contextOf T fw m) next (limitFalls kind machine m)
-        (countedBy kind blocked (runtimeAt fw m)) (withChanceAt s at) (getD actions m noAction) d →
-        Ahead o T D es n kind machine blocked (m + 1) end i
-        (withRuntime fw (set (fw .runtime) m (d .runtime))) (set actions m (d .action)) (d .shared)
-    ahead-settled {d = d} way =
-        ahead-done {d = d} (rw (way .is 2 (T .transitions) (D .chances)) (stays (envOf T D fw m) (limitFalls kind machine m) d (way .still)))
-
     pub ahead-counts : onlyCounts (limitFalls kind machine m) next ≡ true →
         Ahead o T D es n kind machine blocked (m + 1) end i
-        (withRuntime fw (set (fw .runtime) m (countedBy kind blocked (runtimeAt fw m)))) actions (withChanceAt s at)
+        (withRuntime fw (set (fw .runtime) m (countedBy kind blocked (runtimeAt fw m)))) actions (withPlace s at)
     unfolding machineTurn
-    ahead-counts quiet = record {
+    ahead-counts idle = record {
       is =
           a .is
           ∙ rw (
             each-on (machineTurn T D kind machine blocked) end m (run fw actions s) h,
-            on ∙ only _ _ _ _ _ _ quiet,
+            on ∙ only _ _ _ _ _ _ idle,
             set-getD actions m noAction,
           );
     }
@@ -161,9 +142,9 @@ module _ {o : Outcome} {T : Tables} {D : Tapes} {es : List ℕ} {n kind machine 
 
   -- the next event is taken: the framework's counts first
   event-taken : end ≤ m → i < n →
-      Ahead o T D es n (kindAt es i) (machineAt es i) (since fw) (firstFor (kindAt es i) (machineAt es i))
+      Ahead o T D es n (kindAt es i) (machineAt es i) (blockedNow fw) (firstFor (kindAt es i) (machineAt es i))
       (upTo (kindAt es i) (machineAt es i) fw) (i + 1)
-      (withTotals fw (totalsAfter (kindAt es i) (totalsOf fw) (fw .«current_time») (since fw))) actions s
+      (withTotals fw (totalsAfter (kindAt es i) (fw .«current_time») (fw .totals))) actions s
   unfolding processEvent
   event-taken h more =
       let k = kindAt es i in
@@ -173,15 +154,15 @@ module _ {o : Outcome} {T : Tables} {D : Tapes} {es : List ℕ} {n kind machine 
         is =
             a .is
             ∙ rw (each-end (machineTurn T D kind machine blocked) end m (run fw actions s) h)
-            (each-on (eventTurn T D es) n i (run fw actions s) more ∙ rw (turns, blocked-is fw, accounted-is fw k));
+            (each-on (eventTurn T D es) n i (run fw actions s) more ∙ rw turns);
       }
 
   -- the same, of what the code works out
   pub ahead-event : end ≤ m → i < n → {b first last : ℕ} {t : Totals} →
-      b ≡ since fw →
+      b ≡ blockedNow fw →
       first ≡ firstFor (kindAt es i) (machineAt es i) →
       last ≡ upTo (kindAt es i) (machineAt es i) fw →
-      t ≡ totalsAfter (kindAt es i) (totalsOf fw) (fw .«current_time») b →
+      t ≡ totalsAfter (kindAt es i) (fw .«current_time») (fw .totals) →
       Ahead o T D es n (kindAt es i) (machineAt es i) b first last (i + 1) (withTotals fw t) actions s
   ahead-event h more since-is first-is last-is total-is =
       rw (total-is, since-is, first-is, last-is) (event-taken h more)

@@ -1,3 +1,3 @@
--- What the contracts of the outer half of framework.rs say beside the definitions of `steps`.
+-- What the contracts of `events` say beside the definitions of `steps`.
 pub mod Account
 pub mod Run

@@ -1,21 +1,17 @@
--- The lent tables and tapes as records, and a run's outcome as the code answers it.
+-- The lent tables as a record, and a run's outcome as the code answers it.
 use Prim.Native.Nat.{ℕ}
 use mathlib.Core.List.{List}
-use lib.Ieee.{Float}
-use Rattle.steps.specs.Events.{Tables, Tapes, Run, Outcome, stop, go}
+use Rattle.steps.specs.Events.{Tables, Run, Outcome, stop, go}
 use Rattle.steps.specs.Framework.{sharedFrom, noActions}
 use Rattle.steps.specs.declared.Framework.{Framework}
 use Rattle.steps.specs.declared.Shared.{Shared}
 use Rattle.steps.specs.declared.TriggerAction.{TriggerAction}
 use Rattle.steps.specs.declared.Ran.{Ran}
 use Rattle.steps.specs.declared.Verdict.{Verdict}
-use Rattle.steps.specs.declared.Verdict.the-variants.{Complete, Stopped}
+use Rattle.steps.specs.declared.Verdict.the-variants.{Complete, Refused}
 
 abbrev pub tables : List ℕ → List ℕ → List ℕ → Tables
 tables machines states transitions = record { machines = machines; states = states; transitions = transitions }
-
-abbrev pub tapes : List Float → List Float → Tapes
-tapes chances values = record { chances = chances; values = values }
 
 abbrev pub run : Framework → List TriggerAction → Shared → Run
 run fw actions s = record { framework = fw; actions = actions; shared = s }
@@ -30,7 +26,7 @@ entered fw = run fw noActions (sharedFrom (fw .«signal_pending»))
 abbrev pub ran : Verdict → Run → Ran
 ran verdict x = record { verdict = verdict; framework = x .framework; actions = x .actions; shared = x .shared }
 
--- the outcome of a run that began at x; after a stop, all as it was
+-- the outcome of a run that began at x; after a refusal, all as it was
 abbrev pub ranFrom : Run → Outcome → Ran
-ranFrom x (stop n) = ran (Stopped n) x
+ranFrom x (stop n) = ran (Refused n) x
 ranFrom x (go y) = ran Complete y

@@ -1,5 +1,6 @@
 // process_event of framework.rs, but for the machines' transitions: what an event counts, and which
 // machines hear it. Each function takes the numbers that it reads and never the framework.
+use machine::constants::ALLOWED_PADDING_PACKETS;
 use machine::constants::FIRST_STATE;
 use machine::constants::MACHINE_WORDS;
 use machine::constants::MAX_BLOCKING_FRAC;
@@ -9,47 +10,38 @@ use machine::event::BLOCKING_BEGIN;
 use machine::event::BLOCKING_END;
 use machine::event::NORMAL_SENT;
 use machine::event::PADDING_SENT;
+use machine::event::TIMER_BEGIN_KIND;
+use machine::event::TIMER_END_KIND;
 use machine::state::Next;
 use machine::state::state_rows;
 use machine::state::word;
 use steps::Context;
+use steps::Fixed;
+use steps::MachineRuntime;
+use steps::Totals;
 ghost use mathlib.Core.Path.{_≡_};
 ghost use Prim.Native.Nat.{_+_, _≤_, _<_};
 ghost use Rattle.machine.specs.Constants.{stateWords, firstState, numStates};
 ghost use Rattle.machine.specs.State.{rowsOf};
-ghost use Rattle.steps.specs.Events.{ownOnly, limitFalls, firstFor, turnsFor, machineWord};
-ghost use Rattle.events.specs.Account.{blockedSince, totalsAfter, onlyCounts, contextFrom};
+ghost use Rattle.steps.specs.Events.{blockedFor, totalsAfter, countedBy, ownOnly, limitFalls, firstFor, turnsFor, machineWord, contextOf};
+ghost use Rattle.events.specs.Account.{onlyCounts};
 
-// TimerBegin and TimerEnd among the kinds of `TriggerEvent`.
-const TIMER_BEGIN_KIND: u64 = 8;
-
-const TIMER_END_KIND: u64 = 9;
-
-// ---- the framework's own counts
-
-// The counts that an event changes, as `Framework` has them.
-pub struct Totals {
-    pub normal_sent_packets: u64,
-    pub padding_sent_packets: u64,
-    pub blocking_duration: u64,
-    pub blocking_started: u64,
-    pub blocking_active: u64,
-}
+// ---- the counts
 
 // How long the ongoing blocking has been on.
-pub fn blocked_since(blocking_active: u64, current_time: u64, blocking_started: u64) -> u64
-    ensures { λ r. ⌜ r ≡ blockedSince «blocking_active» «current_time» «blocking_started» ⌝ }
+pub fn blocked_for(current_time: u64, t: Totals) -> u64
+    ensures { λ r. ⌜ r ≡ blockedFor «current_time» t ⌝ }
 {
-    if blocking_active == 0 {
+    if t.blocking_active == 0 {
         return 0;
     }
-    numbers::time::saturating_duration_since(current_time, blocking_started)
+    numbers::time::saturating_duration_since(current_time, t.blocking_started)
 }
 
-// What an event makes of them; `blocked` is how long the ongoing blocking has been on. A begin while
-// blocking is on does not move the start, and an end while it is off adds nothing.
-pub fn totals_after(kind: u64, t: Totals, current_time: u64, blocked: u64) -> Totals
-    ensures { λ r. ⌜ r ≡ totalsAfter kind t «current_time» blocked ⌝ }
+// What an event makes of the framework's own counts. A begin while blocking is on does not move the
+// start, and an end while it is off adds nothing.
+pub fn totals_after(kind: u64, current_time: u64, t: Totals) -> Totals
+    ensures { λ r. ⌜ r ≡ totalsAfter kind «current_time» t ⌝ }
 {
     let mut u = t;
     if kind == NORMAL_SENT {
@@ -72,6 +64,7 @@ pub fn totals_after(kind: u64, t: Totals, current_time: u64, blocked: u64) -> To
         if t.blocking_active == 0 {
             return t;
         }
+        let blocked = blocked_for(current_time, t);
         u.blocking_duration = numbers::saturating_add(t.blocking_duration, blocked);
         u.blocking_active = 0;
         return u;
@@ -79,10 +72,34 @@ pub fn totals_after(kind: u64, t: Totals, current_time: u64, blocked: u64) -> To
     t
 }
 
+// A machine's own counts, just before its transition; `blocked` is how long the blocking that ends
+// was on.
+pub fn counted_by(kind: u64, blocked: u64, r: MachineRuntime) -> MachineRuntime
+    ensures { λ x. ⌜ x ≡ countedBy kind blocked r ⌝ }
+{
+    let mut q = r;
+    if kind == NORMAL_SENT {
+        let more = numbers::saturating_add(r.counts.normal_sent, 1);
+        q.counts.normal_sent = more;
+        return q;
+    }
+    if kind == PADDING_SENT {
+        let more = numbers::saturating_add(r.counts.padding_sent, 1);
+        q.counts.padding_sent = more;
+        return q;
+    }
+    if kind == BLOCKING_END {
+        let more = numbers::saturating_add(r.counts.blocking_duration, blocked);
+        q.counts.blocking_duration = more;
+        return q;
+    }
+    r
+}
+
 // ---- whose turn it is
 
 // PaddingSent, TimerBegin and TimerEnd go to their own machine alone.
-pub fn own_only(kind: u64) -> bool
+fn own_only(kind: u64) -> bool
     ensures { λ r. ⌜ r ≡ ownOnly kind ⌝ }
 {
     if kind == PADDING_SENT {
@@ -168,26 +185,18 @@ pub fn only_counts(falls: bool, chosen: Next) -> bool
 }
 
 // Of the machine's row, and of the framework's own numbers.
-pub fn context_from(
+pub fn context_of(
     machines: &[u64],
     m: usize,
     current_time: u64,
-    max_padding_frac: f64,
-    normal_sent_packets: u64,
-    padding_sent_packets: u64,
-    max_blocking_frac: f64,
-    blocking_duration: u64,
-    blocking_started: u64,
-    blocking_active: u64,
-    framework_start: u64,
+    fixed: Fixed,
+    totals: Totals,
 ) -> Context
     requires { ⌜ m < 16 ⌝ }
-    ensures { λ r. ⌜ r ≡ contextFrom (now (machines .entry)) m «current_time»
-        «max_padding_frac» «normal_sent_packets» «padding_sent_packets»
-        «max_blocking_frac» «blocking_duration» «blocking_started» «blocking_active» «framework_start» ⌝ }
+    ensures { λ r. ⌜ r ≡ contextOf (now (machines .entry)) m «current_time» fixed totals ⌝ }
 {
     let at = m * MACHINE_WORDS;
-    let allowed_padding_packets = word(machines, at);
+    let allowed_padding_packets = word(machines, at + ALLOWED_PADDING_PACKETS);
     let machine_padding_frac = numbers::f64_of_word(word(machines, at + MAX_PADDING_FRAC));
     let machine_blocking_frac = numbers::f64_of_word(word(machines, at + MAX_BLOCKING_FRAC));
     Context {
@@ -196,13 +205,13 @@ pub fn context_from(
         machine_padding_frac: machine_padding_frac,
         machine_blocking_frac: machine_blocking_frac,
         current_time: current_time,
-        max_padding_frac: max_padding_frac,
-        normal_sent_packets: normal_sent_packets,
-        padding_sent_packets: padding_sent_packets,
-        max_blocking_frac: max_blocking_frac,
-        blocking_duration: blocking_duration,
-        blocking_started: blocking_started,
-        blocking_active: blocking_active,
-        framework_start: framework_start,
+        max_padding_frac: fixed.max_padding_frac,
+        max_blocking_frac: fixed.max_blocking_frac,
+        framework_start: fixed.framework_start,
+        normal_sent_packets: totals.normal_sent_packets,
+        padding_sent_packets: totals.padding_sent_packets,
+        blocking_duration: totals.blocking_duration,
+        blocking_started: totals.blocking_started,
+        blocking_active: totals.blocking_active,
     }
 }

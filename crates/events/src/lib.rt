@@ -1,8 +1,8 @@
 // framework.rs, process_event: the events of a batch in order, each heard by its machines in order,
 // and the signals after them.
-use account::Totals;
-use account::blocked_since;
-use account::context_from;
+use account::blocked_for;
+use account::context_of;
+use account::counted_by;
 use account::end_for;
 use account::first_for;
 use account::limit_falls;
@@ -10,50 +10,59 @@ use account::only_counts;
 use account::states_of;
 use account::totals_after;
 use machine::event::event_of;
+use machine::source::Place;
+use moves::action::no_action;
+use moves::choice::Choice;
+use moves::choice::choose;
+use moves::settle::Short;
+use moves::settle::short_way;
 use steps::Framework;
 use steps::Ran;
 use steps::Shared;
 use steps::Stepped;
 use steps::Verdict;
-use transition::action::no_action;
-use transition::choice::Choice;
-use transition::choice::choose;
-use transition::settle::Settled;
-use transition::settle::settle;
+use steps::Zeroed;
 ghost use mathlib.Core.Path.{_≡_};
 ghost use mathlib.Core.Bool.{true};
 ghost use Prim.Native.Nat.{_/_};
 ghost use lib.ListN.{length};
+ghost use Rattle.machine.specs.Source.{tapes};
 ghost use Rattle.steps.specs.Events.{each, eventTurn};
 ghost use Rattle.steps.specs.Framework.{sharedFrom, begin, kindsFit};
-ghost use Rattle.steps.specs.declared.Verdict.the-variants.{Stopped};
-ghost use Rattle.events.specs.Run.{tables, tapes, entered, ran, ranFrom};
+ghost use Rattle.steps.specs.declared.Verdict.the-variants.{Refused};
+ghost use Rattle.events.specs.Run.{tables, entered, ran, ranFrom};
 
 pub mod account; // what an event counts, and whose turn it is
 pub mod signals; // the signals after the last event
 
 // What a call shares as it begins: no counter has reported zero, both tapes are at their front.
-pub fn shared_from(signal_pending: u64) -> Shared
+fn shared_from(signal_pending: u64) -> Shared
     ensures { λ r. ⌜ r ≡ sharedFrom «signal_pending» ⌝ }
 {
-    Shared {
-        signal_pending: signal_pending,
-        counter_a_zeroed: false,
-        counter_b_zeroed: false,
+    let front = Place {
         chance_at: 0,
         value_at: 0,
+    };
+    let none = Zeroed {
+        counter_a: false,
+        counter_b: false,
+    };
+    Shared {
+        signal_pending: signal_pending,
+        place: front,
+        zeroed: none,
     }
 }
 
-// A run that was stopped: all as it was when it began.
+// A run that was refused: all as it was when it began.
 pub fn stopped(fw: Framework, refusal: u64) -> Ran
-    ensures { λ r. ⌜ r ≡ ran (Stopped refusal) (entered fw) ⌝ }
+    ensures { λ r. ⌜ r ≡ ran (Refused refusal) (entered fw) ⌝ }
 {
     let none = no_action();
     let actions = [none; 16];
     let s = shared_from(fw.signal_pending);
     Ran {
-        verdict: Verdict::Stopped(refusal),
+        verdict: Verdict::Refused(refusal),
         framework: fw,
         actions: actions,
         shared: s,
@@ -98,19 +107,20 @@ pub fn run_events(
             let falls = limit_falls(kind, machine, m as u64);
             let rows = states_of(machines, states, m);
             let r = f.runtime[m];
-            let counted = transition::counted_by(kind, blocked, r);
+            let counted = counted_by(kind, blocked, r);
+            let place = s.place;
             let choice = choose(
                 rows,
                 transitions,
                 chances,
                 r.current_state,
                 event_of(kind),
-                s.chance_at,
+                place,
             );
             let chosen = match choice {
-                Choice::Missing(why) => return stopped(fw, why),
+                Choice::Refused(why) => return stopped(fw, why),
                 Choice::Chosen(chosen, at) => {
-                    s.chance_at = at;
+                    s.place = at;
                     chosen
                 }
             };
@@ -119,25 +129,14 @@ pub fn run_events(
                 m = m + 1;
                 continue;
             }
-            let c = context_from(
-                machines,
-                m,
-                f.current_time,
-                f.max_padding_frac,
-                f.normal_sent_packets,
-                f.padding_sent_packets,
-                f.max_blocking_frac,
-                f.blocking_duration,
-                f.blocking_started,
-                f.blocking_active,
-                f.framework_start,
-            );
+            let fixed = f.fixed;
+            let totals = f.totals;
+            let c = context_of(machines, m, f.current_time, fixed, totals);
             let p = actions[m];
-            // the short way; what it gives is stored apart from the long way's, so that neither is copied
-            let short = settle(rows, values, c, chosen, falls, counted, s, p);
+            let short = short_way(rows, values, c, falls, chosen, counted, s, p);
             match short {
-                Settled::Elsewhere => {}
-                Settled::At(d) => {
+                Short::Elsewhere => {}
+                Short::Turned(d) => {
                     s = d.shared;
                     let p2 = d.action;
                     actions[m] = p2;
@@ -158,7 +157,15 @@ pub fn run_events(
                 s,
                 p,
             );
-            let x = transition::after_own(rows, transitions, chances, values, c, falls, went);
+            let x = transition::after_transition(
+                rows,
+                transitions,
+                chances,
+                values,
+                c,
+                falls,
+                went,
+            );
             match x {
                 Stepped::Refused(why) => return stopped(fw, why),
                 Stepped::Done(d) => {
@@ -182,22 +189,12 @@ pub fn run_events(
         }
         kind = events[i * 2];
         machine = events[i * 2 + 1];
-        blocked = blocked_since(f.blocking_active, f.current_time, f.blocking_started);
+        let before = f.totals;
+        blocked = blocked_for(f.current_time, before);
         m = first_for(kind, machine) as usize;
         end = end_for(kind, machine, numbers::smaller(f.machines, 16)) as usize;
-        let before = Totals {
-            normal_sent_packets: f.normal_sent_packets,
-            padding_sent_packets: f.padding_sent_packets,
-            blocking_duration: f.blocking_duration,
-            blocking_started: f.blocking_started,
-            blocking_active: f.blocking_active,
-        };
-        let after = totals_after(kind, before, f.current_time, blocked);
-        f.normal_sent_packets = after.normal_sent_packets;
-        f.padding_sent_packets = after.padding_sent_packets;
-        f.blocking_duration = after.blocking_duration;
-        f.blocking_started = after.blocking_started;
-        f.blocking_active = after.blocking_active;
+        let after = totals_after(kind, f.current_time, before);
+        f.totals = after;
         i = i + 1;
     }
 }

@@ -1,5 +1,5 @@
 // The signals after the last event of a batch.
-use super::account::context_from;
+use super::account::context_of;
 use super::account::states_of;
 use machine::event::SIGNAL;
 use steps::Framework;
@@ -12,11 +12,12 @@ ghost use mathlib.Core.Path.{_≡_};
 ghost use mathlib.Core.Bool.{_&&_};
 ghost use Prim.Native.Nat.{_+_, _≤_};
 ghost use lib.Dec.{leb, ltb};
+ghost use Rattle.machine.specs.Source.{tapes};
 ghost use Rattle.steps.specs.Events.{signals};
-ghost use Rattle.events.specs.Run.{tables, tapes, run, ranFrom};
+ghost use Rattle.events.specs.Run.{tables, run, ranFrom};
 
 // Whether a signal leaves out a machine, one of `count`.
-pub fn known(signal: u64, count: u64) -> bool
+fn known(signal: u64, count: u64) -> bool
     requires { ⌜ count ≤ 16 ⌝ }
     ensures { λ r. ⌜ r ≡ (leb 2 signal && ltb signal (2 + count)) ⌝ }
 {
@@ -61,26 +62,16 @@ pub fn run_signals(
                 continue;
             }
             let rows = states_of(machines, states, m);
-            let c = context_from(
-                machines,
-                m,
-                f.current_time,
-                f.max_padding_frac,
-                f.normal_sent_packets,
-                f.padding_sent_packets,
-                f.max_blocking_frac,
-                f.blocking_duration,
-                f.blocking_started,
-                f.blocking_active,
-                f.framework_start,
-            );
+            let fixed = f.fixed;
+            let totals = f.totals;
+            let c = context_of(machines, m, f.current_time, fixed, totals);
             let r = f.runtime[m];
             let p = a[m];
             let x = transition::transition(rows, transitions, chances, values, c, SIGNAL, r, t, p);
             match x {
                 Stepped::Refused(why) => {
                     return Ran {
-                        verdict: Verdict::Stopped(why),
+                        verdict: Verdict::Refused(why),
                         framework: fw,
                         actions: actions,
                         shared: s,

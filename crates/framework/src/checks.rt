@@ -3,6 +3,7 @@
 use machine::constants::MACHINE_WORDS;
 use machine::constants::NUM_STATES;
 use machine::constants::STATE_END;
+use machine::event::TIMER_END_KIND;
 use machine::state::word;
 use steps::Framework;
 ghost use mathlib.Core.Path.{_≡_};
@@ -16,7 +17,7 @@ ghost use Rattle.steps.specs.Framework.{rowsIn, statesFit, fitsTables, kindsFit
 ghost use Rattle.events.specs.Run.{tables};
 
 // Whether a current state is ended, or one of the machine's.
-pub fn state_fits(current_state: u64, num_states: u64) -> bool
+fn state_fits(current_state: u64, num_states: u64) -> bool
     ensures { λ r. ⌜ r ≡ (eqb «current_state» stateEnd || ltb «current_state» «num_states») ⌝ }
 {
     if current_state == STATE_END {
@@ -26,7 +27,7 @@ pub fn state_fits(current_state: u64, num_states: u64) -> bool
 }
 
 // The current states of the first `count` machines.
-pub fn states_fit(fw: Framework, machines: &[u64], count: usize) -> bool
+fn states_fit(fw: Framework, machines: &[u64], count: usize) -> bool
     requires { ⌜ count ≤ 16 ⌝ }
     ensures { λ r. ⌜ ((states transitions : List ℕ) →
         r ≡ statesFit (tables (now (machines .entry)) states transitions) fw count) ⌝ }
@@ -72,7 +73,7 @@ pub fn events_fit(events: &[u64]) -> bool
     let n = events.len() / 2;
     let mut i = 0;
     while i < n {
-        if events[i * 2] > 9 {
+        if events[i * 2] > TIMER_END_KIND {
             return false;
         }
         i = i + 1;

@@ -1,6 +1,7 @@
 // framework.rs, the outer half: the opening, a batch of events with its refusals and its output, and
 // all_machines_ended.
 use machine::constants::MACHINE_WORDS;
+use machine::constants::ROW_WORDS;
 use steps::Answer;
 use steps::Framework;
 use steps::Opened;
@@ -8,16 +9,18 @@ use steps::Ran;
 use steps::Verdict;
 ghost use mathlib.Core.Path.{_≡_};
 ghost use mathlib.Core.Bool.{true};
-ghost use mathlib.Core.List.{List};
+ghost use mathlib.Core.List.{List, []};
 ghost use Prim.Native.Nat.{ℕ, _*_, _/_, _≤_};
 ghost use lib.ListN.{length};
+ghost use Rattle.machine.specs.Constants.{rowWords};
 ghost use Rattle.steps.specs.Events.{numMachines};
 ghost use Rattle.steps.specs.Framework as Spec;
-ghost use Rattle.events.specs.Run.{tables, tapes, runOf, entered, ranFrom};
+ghost use Rattle.machine.specs.Source.{tapes};
+ghost use Rattle.events.specs.Run.{tables, runOf, entered, ranFrom};
 
-pub mod checks; // refusals 18 and 19
-pub mod rows; // the output rows
-pub mod start; // the machines of an opening
+mod checks; // refusals 18 and 19
+mod rows; // the output rows
+mod start; // the machines of an opening
 
 // Framework::new.
 pub fn opening(
@@ -31,7 +34,7 @@ pub fn opening(
 ) -> Opened
     ensures { λ r. ⌜ (
         let T = tables (now (machines .entry)) (now (states .entry)) (now (transitions .entry)) in
-        r ≡ Spec.opening T «max_padding_frac» «max_blocking_frac» time (now (values .entry))) ⌝ }
+        r ≡ Spec.opening T «max_padding_frac» «max_blocking_frac» time (tapes [] (now (values .entry)))) ⌝ }
 {
     let fractions = tables::check_fractions(max_padding_frac, max_blocking_frac);
     if fractions != 0 {
@@ -52,7 +55,7 @@ pub fn opening(
 }
 
 // What a batch refuses before it runs; `room` is the output's length.
-pub fn batch_refusal(
+fn batch_refusal(
     fw: Framework,
     machines: &[u64],
     states: &[u64],
@@ -70,7 +73,7 @@ pub fn batch_refusal(
     }
     if checks::fits_tables(fw, machines) {
         if checks::events_fit(events) {
-            if room < 6 * (machines.len() / MACHINE_WORDS) {
+            if room < ROW_WORDS * (machines.len() / MACHINE_WORDS) {
                 return 20;
             }
             return 0;
@@ -81,7 +84,7 @@ pub fn batch_refusal(
 }
 
 // The events in order, then the signals.
-pub fn trigger_events(
+fn trigger_events(
     fw: Framework,
     machines: &[u64],
     states: &[u64],
@@ -110,7 +113,7 @@ pub fn trigger_events(
     );
     let verdict = ran.verdict;
     match verdict {
-        Verdict::Stopped(_) => {
+        Verdict::Refused(_) => {
             return ran;
         }
         Verdict::Complete => {}
@@ -133,13 +136,13 @@ pub fn trigger_events(
     );
     let last = heard.verdict;
     match last {
-        Verdict::Stopped(n) => events::stopped(fw, n),
+        Verdict::Refused(n) => events::stopped(fw, n),
         Verdict::Complete => heard,
     }
 }
 
 // A refused batch: the framework as it went in, no draws.
-pub fn refused(fw: Framework, refusal: u64) -> Answer
+fn refused(fw: Framework, refusal: u64) -> Answer
     ensures { λ r. ⌜ ((out : List ℕ) → r ≡ Spec.refused fw out refusal .answer) ⌝ }
 {
     Answer {
@@ -152,8 +155,8 @@ pub fn refused(fw: Framework, refusal: u64) -> Answer
 }
 
 // An accepted batch: the rows are written, and a signal that is still pending waits for the next.
-pub fn accepted(ran: Ran, out: &mut [u64]) -> Answer
-    requires { ⌜ 6 * numMachines (ran .framework) ≤ length (now out) ⌝ }
+fn accepted(ran: Ran, out: &mut [u64]) -> Answer
+    requires { ⌜ rowWords * numMachines (ran .framework) ≤ length (now out) ⌝ }
     ensures { λ r. ⌜ (
         let B = Spec.accepted (runOf ran) (now (out .entry)) in
         (r ≡ B .answer) × (now (out .exit) ≡ B .out)) ⌝ }
@@ -166,8 +169,8 @@ pub fn accepted(ran: Ran, out: &mut [u64]) -> Answer
     Answer {
         refusal: 0,
         actions: rows,
-        chance_used: s.chance_at as u64,
-        value_used: s.value_at as u64,
+        chance_used: s.place.chance_at as u64,
+        value_used: s.place.value_at as u64,
         framework: f,
     }
 }
@@ -206,7 +209,7 @@ pub fn batch(
     );
     let verdict = ran.verdict;
     match verdict {
-        Verdict::Stopped(n) => refused(fw, n),
+        Verdict::Refused(n) => refused(fw, n),
         Verdict::Complete => accepted(ran, out),
     }
 }

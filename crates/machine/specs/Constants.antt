@@ -88,6 +88,10 @@ counterB = 25
 abbrev pub events : ℕ
 events = 32
 
+-- counters A and B
+abbrev pub counterNum : ℕ
+counterNum = 2
+
 -- ---- codes of an action
 abbrev pub cancel : ℕ
 cancel = 1

@@ -43,6 +43,13 @@ timerEnd = 11
 abbrev pub signal : ℕ
 signal = 12
 
--- The `Event` of a `TriggerEvent` kind: the first eight are the same; 8 is TimerBegin, 9 is TimerEnd.
+-- ---- `TriggerEvent` lacks LimitReached and CounterZero: its first eight kinds are those of `Event`, then TimerBegin and TimerEnd
+abbrev pub timerBeginKind : ℕ
+timerBeginKind = 8
+
+abbrev pub timerEndKind : ℕ
+timerEndKind = 9
+
+-- the `Event` of a kind
 unfoldable pub eventOf : ℕ → ℕ
 eventOf kind = cond (ltb kind 8) kind (kind + 2)

@@ -1,4 +1,5 @@
 -- What the lent tables hold, as functions on lists of words.
 pub mod Constants
 pub mod Event
+pub mod Source
 pub mod State

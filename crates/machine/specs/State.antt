@@ -1,13 +1,11 @@
--- state.rs: rows of the lent tables, a draw of the chance tape, and the choice of a next state.
+-- state.rs: rows of the lent tables, and the choice of a next state.
 use Prim.Native.Nat.{ℕ, zero, suc, _+_, _*_, _%_}
 use mathlib.Core.List.{List}
-use mathlib.Core.Bool.{Bool, cond, _&&_}
+use mathlib.Core.Bool.{Bool, cond}
 use lib.ListN.{length, getD, take, drop}
-use lib.Dec.{ltb, leb}
-use lib.Ieee.{Float, nan, binary32, ofBits, add, lt, le}
+use lib.Dec.{leb}
+use lib.Ieee.{Float, binary32, ofBits, add, lt}
 use Rattle.machine.specs.Constants.{stateWords, transitionWords, events}
-use Rattle.machine.specs.declared.state.ChanceDrawn.{ChanceDrawn}
-use Rattle.machine.specs.declared.state.ChanceDrawn.the-variants.{NoChance, GotChance}
 use Rattle.machine.specs.declared.state.Next.{Next}
 use Rattle.machine.specs.declared.state.Next.the-variants.{State, Nothing}
 
@@ -26,16 +24,6 @@ firstOf row event = getD row (events + event * 2) 0
 
 abbrev pub countOf : List ℕ → ℕ → ℕ
 countOf row event = getD row (events + event * 2 + 1) 0
-
--- ---- the chance tape (document 01: chance draws): 16 past its end, 17 for a draw that is not 0 <= c < 1
-abbrev pub fitChance : Float → Bool
-fitChance c = le (ofBits binary32 0) c && lt c (ofBits binary32 0x3f80_0000)
-
-unfoldable pub chanceDraw : List Float → ℕ → ChanceDrawn
-chanceDraw chances at =
-    cond (ltb at (length chances))
-    (cond (fitChance (getD chances at nan)) (GotChance (getD chances at nan) (at + 1)) (NoChance 17))
-    (NoChance 16)
 
 -- ---- State::sample_state, given the draw
 -- a transition's target, and its probability (the f32 of a word's low 32 bits; the table checks leave no larger word)

@@ -1,7 +1,7 @@
 // event.rs: the events that a state has transitions for.
 ghost use mathlib.Core.Path.{_≡_};
 ghost use Prim.Native.Nat.{_≤_};
-ghost use Rattle.machine.specs.Event.{eventOf};
+ghost use Rattle.machine.specs.Event.{eventOf, timerEndKind};
 
 // `Event`, in its order.
 pub const NORMAL_RECV: u64 = 0;
@@ -30,10 +30,15 @@ pub const TIMER_END: u64 = 11;
 
 pub const SIGNAL: u64 = 12;
 
-// The `Event` of a `TriggerEvent` kind. `TriggerEvent` lacks LimitReached and CounterZero, so the
-// kinds after BlockingEnd are two behind.
+// The last two kinds of `TriggerEvent`, which lacks LimitReached and CounterZero. Its first eight
+// are those of `Event`.
+pub const TIMER_BEGIN_KIND: u64 = 8;
+
+pub const TIMER_END_KIND: u64 = 9;
+
+// The `Event` of a `TriggerEvent` kind.
 pub fn event_of(kind: u64) -> u64
-    requires { ⌜ kind ≤ 9 ⌝ }
+    requires { ⌜ kind ≤ timerEndKind ⌝ }
     ensures { λ r. ⌜ r ≡ eventOf kind ⌝ }
 {
     if kind < LIMIT_REACHED { kind } else { kind + 2 }

@@ -1,21 +1,13 @@
-// state.rs: rows of the state table, a draw of the chance tape, and the choice of a next state.
+// state.rs: rows of the state table, and the choice of a next state.
 use super::constants::EVENTS;
-use super::constants::NO_DRAW;
 use super::constants::STATE_WORDS;
 use super::constants::TRANSITION_WORDS;
-use super::constants::UNFIT_DRAW;
 ghost use mathlib.Core.Path.{_≡_};
 ghost use Prim.Native.Nat.{_*_, _≤_, _<_, min};
 ghost use lib.ListN.{getD};
 ghost use Rattle.machine.specs.Constants.{eventNum, stateWords};
 ghost use Rattle.machine.specs.State.{rowsOf, stateRow, firstOf, countOf};
-ghost use Rattle.machine.specs.State.{chanceDraw, sampleState};
-
-// A chance that was drawn, and where the chance tape goes on; or the refusal.
-pub enum ChanceDrawn {
-    NoChance(u64),
-    GotChance(f32, usize),
-}
+ghost use Rattle.machine.specs.State.{sampleState};
 
 // The next state of a transition, a pseudo-state among them, or none.
 pub enum Next {
@@ -78,22 +70,6 @@ pub fn count_of(row: &[u64], event: u64) -> u64
     ensures { λ r. ⌜ r ≡ countOf (now (row .entry)) event ⌝ }
 {
     word(row, EVENTS + (event as usize) * 2 + 1)
-}
-
-// ---- the chance tape
-
-// The next chance draw: 16 past the tape's end, 17 where it is not 0 <= c < 1.
-pub fn chance_draw(chances: &[f32], at: usize) -> ChanceDrawn
-    ensures { λ r. ⌜ r ≡ chanceDraw (now (chances .entry)) at ⌝ }
-{
-    if at < chances.len() {
-        let c = chances[at];
-        if (c >= 0.0) & (c < 1.0) {
-            return ChanceDrawn::GotChance(c, at + 1);
-        }
-        return ChanceDrawn::NoChance(UNFIT_DRAW);
-    }
-    ChanceDrawn::NoChance(NO_DRAW)
 }
 
 // ---- State::sample_state

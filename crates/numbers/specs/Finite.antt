@@ -1,11 +1,10 @@
 -- Which floats are numbers, and the number zero. Definitions.
 use mathlib.Core.Bool.{Bool, true, false}
-use lib.IntN.{pos}
-use lib.Ieee.{Float, nan, inf, fin}
+use lib.Ieee.{Float, nan, inf, fin, binary64, ofBits}
 
 -- +0.0
 abbrev pub zeroF : Float
-zeroF = fin false 0 (pos 0)
+zeroF = ofBits binary64 0
 
 -- neither a NaN nor an infinity
 unfoldable pub isFinite : Float → Bool

@@ -7,7 +7,7 @@ use mathlib.Core.Path.{_≡_, refl, sym, ap, _∙_, subst}
 use lib.IntN.{pos}
 use lib.Dec.{T, ltb, ltb→lt, lt→ltb}
 use lib.Pow.{pow-pos}
-use lib.Ieee.{Float, nan, inf, fin, up, down, lt, le}
+use lib.Ieee.{Float, nan, inf, fin, up, down, lt, le, ofBits}
 use lib.Ieee.Fits.{up-pos, and-l}
 use lib.Ieee.Bits.{is-true}
 use lib.Ieee.Positive.{positive, above, first-pos, above-of-le, le-trans-positive}
@@ -15,7 +15,7 @@ use Rattle.numbers.specs.Finite.{zeroF}
 
 -- above zero and below the infinity
 pub positive-is : (x : Float) → positive x ≡ (lt zeroF x && lt x (inf false))
-unfolding lt
+unfolding lt ofBits
 positive-is nan = refl
 positive-is (inf true) = refl
 positive-is (inf false) = refl
@@ -50,7 +50,7 @@ positive-above x p =
 -- ---- a limit
 no-infinity : (x : Float) → lt zeroF x ≡ true → lt (fin false 1 (pos 0)) x ≡ false
     → lt x (inf false) ≡ true
-unfolding lt
+unfolding lt ofBits
 no-infinity nan a b = a
 no-infinity (inf true) a b = refl
 no-infinity (inf false) a b = sym b

@@ -40,13 +40,13 @@ fn put_runtime(out: &mut [u64; ANSWER], at: usize, r: MachineRuntime)
     let words = [
         r.current_state,
         r.state_limit,
-        r.padding_sent,
-        r.normal_sent,
-        r.blocking_duration,
+        r.counts.padding_sent,
+        r.counts.normal_sent,
+        r.counts.blocking_duration,
         r.machine_start,
         r.allowed_blocked_microsec,
-        r.counter_a,
-        r.counter_b,
+        r.counters.counter_a,
+        r.counters.counter_b,
     ];
     put(out, at, &words, RUNTIME_WORDS);
 }
@@ -59,15 +59,15 @@ fn put_own(out: &mut [u64; ANSWER], at: usize, count: u64, fw: Framework)
         count,
         fw.machines,
         fw.current_time,
-        bits(fw.max_padding_frac),
-        fw.normal_sent_packets,
-        fw.padding_sent_packets,
-        bits(fw.max_blocking_frac),
-        fw.blocking_duration,
-        fw.blocking_started,
-        fw.blocking_active,
+        bits(fw.fixed.max_padding_frac),
+        fw.totals.normal_sent_packets,
+        fw.totals.padding_sent_packets,
+        bits(fw.fixed.max_blocking_frac),
+        fw.totals.blocking_duration,
+        fw.totals.blocking_started,
+        fw.totals.blocking_active,
         fw.signal_pending,
-        fw.framework_start,
+        fw.fixed.framework_start,
     ];
     put(out, at, &words, 1 + OWN_WORDS);
 }

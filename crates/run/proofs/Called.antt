@@ -12,14 +12,16 @@ use Rattle.text.specs.Words.{chances, values}
 use Rattle.text.proofs.Lines.{length-call-text}
 use Rattle.stream.specs.Stream.{callOf, machineTable, stateTable, transitionTable, chanceWords, valueWords, eventsOf}
 use Rattle.stream.specs.declared.Call.{Call}
+use Rattle.machine.specs.Source.{Source, tapes}
+use Rattle.machine.specs.declared.source.Place.{Place}
 use Rattle.steps.specs.Framework.{batch}
-use Rattle.steps.specs.Events.{Tables, Tapes}
+use Rattle.steps.specs.Events.{Tables}
 use Rattle.steps.specs.declared.Framework.{Framework}
 use Rattle.steps.specs.declared.Answer.{Answer}
-use Rattle.events.specs.Run.{tables, tapes}
+use Rattle.events.specs.Run.{tables}
 use Rattle.run.specs.declared.Standing.{Standing}
 use Rattle.run.specs.Run.{stand, batchAt, standsAfter, printed}
-use Rattle.run.proofs.Few.{actions-few}
+use Rattle.steps.specs.Printable as printable
 
 -- a tape from a place on
 pub tape : (ts : List Float) (at : ℕ) → take (length ts - at) (drop at ts) ≡ drop at ts
@@ -59,6 +61,6 @@ module _ (ws : List ℕ) (s : Standing) where
   )
 
 -- an answer has at most a row for each machine
-pub rows-few : (a : Answer) (fw : Framework) (T : Tables) (time : ℕ) (es : List ℕ) (D : Tapes) (out : List ℕ)
+pub rows-few : (a : Answer) (fw : Framework) (T : Tables) (time : ℕ) (es : List ℕ) (D : Source Place) (out : List ℕ)
     → a ≡ batch fw T time es D out .answer → a .actions ≤ machineMax
-rows-few a fw T time es D out e = rw e (actions-few fw T time es D out)
+rows-few a fw T time es D out e = rw e (printable.rows-few fw T time es D out)

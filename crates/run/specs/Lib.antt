@@ -1,2 +1,3 @@
 -- The printed run as a definition on its input.
 pub mod Run
+pub mod Fits

@@ -9,11 +9,12 @@ use Rattle.machine.specs.Constants.{machineMax, rowWords}
 use Rattle.text.specs.Columns.{callText}
 use Rattle.text.specs.Words.{chances, values, valueOf}
 use Rattle.stream.specs.Stream.{paddingFrac, blockingFrac, openingTime, callCount, callsAt, machineTable, stateTable, transitionTable, chanceWords, valueWords, eventsOf, nextCall, inputRefusal, inputWords}
+use Rattle.machine.specs.Source.{tapes}
 use Rattle.steps.specs.Events.{Tables}
 use Rattle.steps.specs.Framework.{Batch, batch, opening}
 use Rattle.steps.specs.declared.Framework.{Framework}
 use Rattle.steps.specs.declared.Opened.{Opened}
-use Rattle.events.specs.Run.{tables, tapes}
+use Rattle.events.specs.Run.{tables}
 use Rattle.run.specs.declared.Standing.{Standing}
 use Rattle.run.specs.declared.Started.{Started}
 
@@ -36,7 +37,7 @@ module _ (ws : List ℕ) where
 
   -- ---- the opening is call 0
   unfoldable pub openedOf : Opened
-  openedOf = opening lentTables (valueOf (paddingFrac ws)) (valueOf (blockingFrac ws)) (openingTime ws) valueTape
+  openedOf = opening lentTables (valueOf (paddingFrac ws)) (valueOf (blockingFrac ws)) (openingTime ws) (tapes [] valueTape)
 
   unfoldable pub started : Started
   started = record {

@@ -9,7 +9,7 @@ use Rattle.numbers.specs.Round.{roundAway}
 use Rattle.machine.specs.Constants.{stateLimitMax}
 use Rattle.samples.specs.Dist.{gotWhole, wholeOf}
 use Rattle.samples.specs.declared.dist.ValueDrawn.{ValueDrawn}
-use Rattle.samples.specs.declared.dist.ValueDrawn.the-variants.{NoValue, GotValue}
+use Rattle.samples.specs.declared.dist.ValueDrawn.the-variants.{Refused, GotValue}
 
 at-most : (x : Float) → roundAway x ≤ stateLimitMax
 unfolding roundAway
@@ -25,5 +25,5 @@ uncapped x = omega (arith, at-most x)
 -- with that cap the rounded number is the number
 pub rounded-fits : (d : ValueDrawn) →
     wholeOf (λ (x : Float). min (roundAway x) stateLimitMax) d ≡ wholeOf roundAway d
-rounded-fits (NoValue n) = refl
+rounded-fits (Refused n) = refl
 rounded-fits (GotValue v) = ap (λ (w : ℕ). gotWhole w (v .at)) (uncapped (v .value))

@@ -2,20 +2,19 @@
 use Prim.Native.Nat.{ℕ, _+_}
 use mathlib.Core.List.{List}
 use mathlib.Core.Bool.{Bool, true, cond, not, _&&_}
-use lib.ListN.{length, getD}
-use lib.Dec.{ltb, eqb}
-use lib.Ieee.{Float, nan, binary64, ofBits, add, sub, lt, le, eq}
-use Rattle.numbers.specs.Finite.{isFinite}
+use lib.ListN.{getD}
+use lib.Dec.{eqb}
+use lib.Ieee.{Float, binary64, ofBits, add, sub, lt, eq}
+use Rattle.numbers.specs.Finite.{isFinite, zeroF}
+use Rattle.machine.specs.Source.{Drawn, no, got, Values}
+use Rattle.machine.specs.declared.source.Place.{Place}
 use Rattle.samples.specs.declared.dist.DistType.{DistType}
 use Rattle.samples.specs.declared.dist.DistType.the-variants.{Absent, Uniform, Outside}
 use Rattle.samples.specs.declared.dist.Dist.{Dist}
 use Rattle.samples.specs.declared.dist.ValueDrawn.{ValueDrawn}
-use Rattle.samples.specs.declared.dist.ValueDrawn.the-variants.{NoValue, GotValue}
+use Rattle.samples.specs.declared.dist.ValueDrawn.the-variants.{Refused, GotValue}
 use Rattle.samples.specs.declared.dist.WholeDrawn.{WholeDrawn}
-use Rattle.samples.specs.declared.dist.WholeDrawn.the-variants.{NoWhole, GotWhole}
-
-abbrev pub zeroF : Float
-zeroF = ofBits binary64 0
+use Rattle.samples.specs.declared.dist.WholeDrawn.the-variants.{Refused, GotWhole}
 
 -- ---- five words of a row: kind, then the bits of low, high, start and max
 abbrev pub f64At : List ℕ → ℕ → Float
@@ -44,32 +43,29 @@ validType Outside = true
 unfoldable pub validate : Dist → Bool
 validate d = validType (d .dist)
 
--- ---- the value tape (document 01: value draws)
-abbrev pub gotValue : Float → ℕ → ValueDrawn
+-- ---- a value draw
+abbrev pub gotValue : Float → Place → ValueDrawn
 gotValue value at = GotValue (record { value = value; at = at })
 
--- The next value: 16 past the tape's end, 17 where it is not fit.
-abbrev pub nextValue : (Float → Bool) → List Float → ℕ → ValueDrawn
-nextValue fit values at =
-    cond (ltb at (length values))
-    (cond (fit (getD values at nan)) (gotValue (getD values at nan) (at + 1)) (NoValue 17))
-    (NoValue 16)
+abbrev pub valueDrawn : Drawn Place Float → ValueDrawn
+valueDrawn (no n at) = Refused n
+valueDrawn (got v at) = gotValue v at
 
 -- A Uniform value; with low = high it takes no draw.
-unfoldable pub uniformDraw : Float → Float → List Float → ℕ → ValueDrawn
-uniformDraw low high values at = cond (eq low high) (gotValue low at) (nextValue (λ v. le low v && lt v high) values at)
+unfoldable pub uniformDraw : Float → Float → Values Place → Place → ValueDrawn
+uniformDraw low high values at = cond (eq low high) (gotValue low at) (valueDrawn (values .uniform low high at))
 
--- A value drawn outside: every float is fit.
-unfoldable pub outsideDraw : List Float → ℕ → ValueDrawn
-outsideDraw values at = nextValue (λ v. true) values at
+-- A value drawn outside.
+unfoldable pub outsideDraw : Values Place → Place → ValueDrawn
+outsideDraw values at = valueDrawn (values .outside at)
 
 -- ---- Dist::dist_sample; an absent distribution is never sampled
-abbrev pub sampleOfType : DistType → List Float → ℕ → ValueDrawn
+abbrev pub sampleOfType : DistType → Values Place → Place → ValueDrawn
 sampleOfType Absent values at = gotValue zeroF at
 sampleOfType (Uniform low high) values at = uniformDraw low high values at
 sampleOfType Outside values at = outsideDraw values at
 
-unfoldable pub distSample : Dist → List Float → ℕ → ValueDrawn
+unfoldable pub distSample : Dist → Values Place → Place → ValueDrawn
 distSample d values at = sampleOfType (d .dist) values at
 
 -- ---- Dist::sample
@@ -85,16 +81,16 @@ unfoldable pub adjusted : Dist → Float → Float
 adjusted d sampled = capped (d .max) (orZero (add binary64 sampled (d .start)))
 
 abbrev pub adjustedDraw : Dist → ValueDrawn → ValueDrawn
-adjustedDraw d (NoValue n) = NoValue n
+adjustedDraw d (Refused n) = Refused n
 adjustedDraw d (GotValue v) = gotValue (adjusted d (v .value)) (v .at)
 
-unfoldable pub sample : Dist → List Float → ℕ → ValueDrawn
+unfoldable pub sample : Dist → Values Place → Place → ValueDrawn
 sample d values at = adjustedDraw d (distSample d values at)
 
 -- ---- a sample as a whole number
-abbrev pub gotWhole : ℕ → ℕ → WholeDrawn
+abbrev pub gotWhole : ℕ → Place → WholeDrawn
 gotWhole value at = GotWhole (record { value = value; at = at })
 
 abbrev pub wholeOf : (Float → ℕ) → ValueDrawn → WholeDrawn
-wholeOf f (NoValue n) = NoWhole n
+wholeOf f (Refused n) = Refused n
 wholeOf f (GotValue v) = gotWhole (f (v .value)) (v .at)

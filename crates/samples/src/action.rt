@@ -14,9 +14,11 @@ use machine::constants::SEND_PADDING;
 use machine::constants::STATE_LIMIT_MAX;
 use machine::constants::TIMEOUT;
 use machine::constants::UPDATE_TIMER;
+use machine::source::Place;
 use machine::state::word;
 ghost use mathlib.Core.Path.{_≡_};
 ghost use Prim.Native.Nat.{min};
+ghost use Rattle.machine.specs.Source.{tapeValues};
 ghost use Rattle.numbers.specs.Round.{roundAway};
 ghost use Rattle.samples.specs.Dist.{wholeOf};
 ghost use Rattle.samples.specs.Action.{sampleTimeout, sampleDuration, hasLimit, sampleLimit};
@@ -26,20 +28,21 @@ fn rounded(drawn: ValueDrawn, most: u64) -> WholeDrawn
     ensures { λ r. ⌜ r ≡ wholeOf (λ x. min (roundAway x) most) drawn ⌝ }
 {
     match drawn {
-        ValueDrawn::NoValue(n) => WholeDrawn::NoWhole(n),
+        ValueDrawn::Refused(n) => WholeDrawn::Refused(n),
         ValueDrawn::GotValue(v) => {
             let value = numbers::smaller(numbers::round_half_away(v.value), most);
+            let at = v.at;
             WholeDrawn::GotWhole(Whole {
                 value: value,
-                at: v.at,
+                at: at,
             })
         }
     }
 }
 
 // Action::sample_timeout: of SendPadding and BlockOutgoing; 0, with no draw, for any other action.
-pub fn sample_timeout(row: &[u64], values: &[f64], at: usize) -> WholeDrawn
-    ensures { λ r. ⌜ r ≡ sampleTimeout (now (row .entry)) (now (values .entry)) at ⌝ }
+pub fn sample_timeout(row: &[u64], values: &[f64], at: Place) -> WholeDrawn
+    ensures { λ r. ⌜ r ≡ sampleTimeout (now (row .entry)) (tapeValues (now (values .entry))) at ⌝ }
 {
     let action = word(row, ACTION);
     if (action == SEND_PADDING) | (action == BLOCK_OUTGOING) {
@@ -49,8 +52,8 @@ pub fn sample_timeout(row: &[u64], values: &[f64], at: usize) -> WholeDrawn
 }
 
 // Action::sample_duration: of BlockOutgoing and UpdateTimer; 0, with no draw, for any other action.
-pub fn sample_duration(row: &[u64], values: &[f64], at: usize) -> WholeDrawn
-    ensures { λ r. ⌜ r ≡ sampleDuration (now (row .entry)) (now (values .entry)) at ⌝ }
+pub fn sample_duration(row: &[u64], values: &[f64], at: Place) -> WholeDrawn
+    ensures { λ r. ⌜ r ≡ sampleDuration (now (row .entry)) (tapeValues (now (values .entry))) at ⌝ }
 {
     let action = word(row, ACTION);
     if (action == BLOCK_OUTGOING) | (action == UPDATE_TIMER) {
@@ -69,8 +72,8 @@ pub fn has_limit(row: &[u64]) -> bool
 }
 
 // Action::sample_limit; the largest u64, with no draw, where there is no limit.
-pub fn sample_limit(row: &[u64], values: &[f64], at: usize) -> WholeDrawn
-    ensures { λ r. ⌜ r ≡ sampleLimit (now (row .entry)) (now (values .entry)) at ⌝ }
+pub fn sample_limit(row: &[u64], values: &[f64], at: Place) -> WholeDrawn
+    ensures { λ r. ⌜ r ≡ sampleLimit (now (row .entry)) (tapeValues (now (values .entry))) at ⌝ }
 {
     if has_limit(row) {
         return rounded(sample_at(row, LIMIT, values, at), STATE_LIMIT_MAX);

@@ -5,10 +5,12 @@ use super::dist::WholeDrawn;
 use super::dist::sample_at;
 use machine::constants::ABSENT;
 use machine::constants::COUNTER_DIST;
+use machine::source::Place;
 use machine::state::word;
 ghost use mathlib.Core.Path.{_≡_};
 ghost use Prim.Native.Nat.{_+_, _≤_};
 ghost use Rattle.machine.specs.Constants.{stateWords};
+ghost use Rattle.machine.specs.Source.{tapeValues};
 ghost use lib.Ieee.{toUnsigned};
 ghost use Rattle.samples.specs.Dist.{wholeOf};
 ghost use Rattle.samples.specs.Counter.{sampleValue};
@@ -18,21 +20,22 @@ fn cut_draw(drawn: ValueDrawn) -> WholeDrawn
     ensures { λ r. ⌜ r ≡ wholeOf (toUnsigned 64) drawn ⌝ }
 {
     match drawn {
-        ValueDrawn::NoValue(n) => WholeDrawn::NoWhole(n),
+        ValueDrawn::Refused(n) => WholeDrawn::Refused(n),
         ValueDrawn::GotValue(v) => {
             let value = numbers::cut(v.value);
+            let at = v.at;
             WholeDrawn::GotWhole(Whole {
                 value: value,
-                at: v.at,
+                at: at,
             })
         }
     }
 }
 
 // The value of the counter that begins at word k: cut; 1 without a distribution.
-pub fn sample_value(row: &[u64], k: usize, values: &[f64], at: usize) -> WholeDrawn
+pub fn sample_value(row: &[u64], k: usize, values: &[f64], at: Place) -> WholeDrawn
     requires { ⌜ k + 2 ≤ stateWords ⌝ }
-    ensures { λ r. ⌜ r ≡ sampleValue (now (row .entry)) k (now (values .entry)) at ⌝ }
+    ensures { λ r. ⌜ r ≡ sampleValue (now (row .entry)) k (tapeValues (now (values .entry))) at ⌝ }
 {
     let dist = k + COUNTER_DIST;
     if word(row, dist) == ABSENT {

@@ -3,10 +3,12 @@ use machine::constants::ABSENT;
 use machine::constants::NO_DRAW;
 use machine::constants::UNFIT_DRAW;
 use machine::constants::UNIFORM;
+use machine::source::Place;
 use machine::state::word;
 ghost use mathlib.Core.Path.{_≡_};
 ghost use Prim.Native.Nat.{_≤_};
 ghost use Rattle.machine.specs.Constants.{stateWords};
+ghost use Rattle.machine.specs.Source.{tapeValues};
 ghost use Rattle.samples.specs.Dist as Spec;
 
 // The kind of a distribution. Document 01's "drawn outside" stands for the ten kinds other than
@@ -23,26 +25,26 @@ pub struct Dist {
     pub max: f64,
 }
 
-// A value, and where the value tape goes on.
+// A value, and where the tapes go on.
 pub struct Value {
     pub value: f64,
-    pub at: usize,
+    pub at: Place,
 }
 
 // A value that was drawn, or the refusal: 16 past the tape's end, 17 for a draw that is not fit.
 pub enum ValueDrawn {
-    NoValue(u64),
+    Refused(u64),
     GotValue(Value),
 }
 
-// A whole number, and where the value tape goes on.
+// A whole number, and where the tapes go on.
 pub struct Whole {
     pub value: u64,
-    pub at: usize,
+    pub at: Place,
 }
 
 pub enum WholeDrawn {
-    NoWhole(u64),
+    Refused(u64),
     GotWhole(Whole),
 }
 
@@ -97,43 +99,48 @@ pub fn valid_uniform(low: f64, high: f64) -> bool
 
 // A Uniform value: 16 past the tape's end, 17 where it is not low <= v < high. With low = high it
 // takes no draw.
-fn uniform_draw(low: f64, high: f64, values: &[f64], at: usize) -> ValueDrawn
-    ensures { λ r. ⌜ r ≡ Spec.uniformDraw low high (now (values .entry)) at ⌝ }
+fn uniform_draw(low: f64, high: f64, values: &[f64], at: Place) -> ValueDrawn
+    ensures { λ r. ⌜ r ≡ Spec.uniformDraw low high (tapeValues (now (values .entry))) at ⌝ }
 {
     if low == high {
         return ValueDrawn::GotValue(Value { value: low, at: at });
     }
-    if at < values.len() {
-        let v = values[at];
+    let i = at.value_at;
+    if i < values.len() {
+        let v = values[i];
         if (low <= v) & (v < high) {
-            return ValueDrawn::GotValue(Value {
-                value: v,
-                at: at + 1,
-            });
+            let next = Place {
+                chance_at: at.chance_at,
+                value_at: i + 1,
+            };
+            return ValueDrawn::GotValue(Value { value: v, at: next });
         }
-        return ValueDrawn::NoValue(UNFIT_DRAW);
+        return ValueDrawn::Refused(UNFIT_DRAW);
     }
-    ValueDrawn::NoValue(NO_DRAW)
+    ValueDrawn::Refused(NO_DRAW)
 }
 
 // A value drawn outside: 16 past the tape's end.
-fn outside_draw(values: &[f64], at: usize) -> ValueDrawn
-    ensures { λ r. ⌜ r ≡ Spec.outsideDraw (now (values .entry)) at ⌝ }
+fn outside_draw(values: &[f64], at: Place) -> ValueDrawn
+    ensures { λ r. ⌜ r ≡ Spec.outsideDraw (tapeValues (now (values .entry))) at ⌝ }
 {
-    if at < values.len() {
-        return ValueDrawn::GotValue(Value {
-            value: values[at],
-            at: at + 1,
-        });
+    let i = at.value_at;
+    if i < values.len() {
+        let v = values[i];
+        let next = Place {
+            chance_at: at.chance_at,
+            value_at: i + 1,
+        };
+        return ValueDrawn::GotValue(Value { value: v, at: next });
     }
-    ValueDrawn::NoValue(NO_DRAW)
+    ValueDrawn::Refused(NO_DRAW)
 }
 
 // ---- Dist::dist_sample and Dist::sample
 
 // Callers do not sample an absent distribution.
-fn dist_sample(d: Dist, values: &[f64], at: usize) -> ValueDrawn
-    ensures { λ r. ⌜ r ≡ Spec.distSample d (now (values .entry)) at ⌝ }
+fn dist_sample(d: Dist, values: &[f64], at: Place) -> ValueDrawn
+    ensures { λ r. ⌜ r ≡ Spec.distSample d (tapeValues (now (values .entry))) at ⌝ }
 {
     let dist = d.dist;
     match dist {
@@ -171,21 +178,22 @@ fn adjusted_draw(d: Dist, drawn: ValueDrawn) -> ValueDrawn
     ensures { λ r. ⌜ r ≡ Spec.adjustedDraw d drawn ⌝ }
 {
     match drawn {
-        ValueDrawn::NoValue(n) => ValueDrawn::NoValue(n),
+        ValueDrawn::Refused(n) => ValueDrawn::Refused(n),
         ValueDrawn::GotValue(v) => {
             let value = adjusted(d, v.value);
+            let at = v.at;
             ValueDrawn::GotValue(Value {
                 value: value,
-                at: v.at,
+                at: at,
             })
         }
     }
 }
 
 // Dist::sample of the distribution that begins at word k of a state row.
-pub fn sample_at(row: &[u64], k: usize, values: &[f64], at: usize) -> ValueDrawn
+pub fn sample_at(row: &[u64], k: usize, values: &[f64], at: Place) -> ValueDrawn
     requires { ⌜ k ≤ stateWords ⌝ }
-    ensures { λ r. ⌜ r ≡ Spec.sample (Spec.distAt (now (row .entry)) k) (now (values .entry)) at ⌝ }
+    ensures { λ r. ⌜ r ≡ Spec.sample (Spec.distAt (now (row .entry)) k) (tapeValues (now (values .entry))) at ⌝ }
 {
     let d = dist_at(row, k);
     adjusted_draw(d, dist_sample(d, values, at))

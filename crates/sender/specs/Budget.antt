@@ -5,6 +5,8 @@ use mathlib.Core.List.{List, [], _∷_, map}
 use mathlib.Core.Path.{_≡_, refl, sym, ap, _∙_, subst}
 use lib.Dec.{T, eqb}
 use lib.Ieee.{Float, binary64, fits}
+use Rattle.machine.specs.Source.{Source, Telling}
+use Rattle.machine.specs.declared.source.Place.{Place}
 use Rattle.steps.specs.Events.{Tables}
 use Rattle.steps.specs.Framework.{opening}
 use Rattle.steps.specs.Budget.{Call, Ledger, empty, counted, returned, returnsPadding, afterCall, ledger, Spends, Lists, packets, Budgets}
@@ -24,7 +26,7 @@ pub record Made : Type 0 where
 abbrev pub Kept : Framework → Made → Type 0
 Kept x m =
     let c = m .call in
-    Promised x (c .tables) (c .time) (c .events) (c .tapes) (c .out) (m .framework) (m .reply) (m .out)
+    Promised x (c .tables) (c .time) (c .events) (c .source) (c .out) (m .framework) (m .reply) (m .out)
 
 -- calls in a row on one framework, which nobody else writes
 abbrev pub History : Framework → List Made → Type 0
@@ -74,16 +76,17 @@ lists-are tables l x (m ∷ ms) h t = (
 
 -- THEOREM: over every list of in-place calls after an accepted opening no padding budget is overdrawn.
 pub no-budget-overdrawn-in-place :
-    (tables : Tables) (F blocking : Float) (time : ℕ) (values : List Float) (ms : List Made)
+    (tables : Tables) (F blocking : Float) (time : ℕ) (source : Source Place) (ms : List Made)
+    → Telling source
     → T (fits binary64 F)
-    → opening tables F blocking time values .refusal ≡ 0
-    → History (opening tables F blocking time values .framework) ms
+    → opening tables F blocking time source .refusal ≡ 0
+    → History (opening tables F blocking time source .framework) ms
     → ListsOf tables empty ms
     → packets (ledgerOf empty ms) ≤ 2 ^ 53
     → Budgets tables F (ledgerOf empty ms)
-no-budget-overdrawn-in-place tables F blocking time values ms f o h t p =
-    let x = opening tables F blocking time values .framework in
+no-budget-overdrawn-in-place tables F blocking time source ms tells f o h t p =
+    let x = opening tables F blocking time source .framework in
     let e = ledger-is empty x ms h in
     subst (Budgets tables F) (sym e)
-    (no-budget-overdrawn tables F blocking time values (map (λ m. m .call) ms) f o (lists-are tables empty x ms h t)
+    (no-budget-overdrawn tables F blocking time source (map (λ m. m .call) ms) tells f o (lists-are tables empty x ms h t)
     (subst (λ (l : Ledger). packets l ≤ 2 ^ 53) e p))

@@ -3,7 +3,9 @@
 use Prim.Native.Nat.{ℕ}
 use mathlib.Core.List.{List}
 use mathlib.Core.Path.{_≡_}
-use Rattle.steps.specs.Events.{Tables, Tapes}
+use Rattle.machine.specs.Source.{Source}
+use Rattle.machine.specs.declared.source.Place.{Place}
+use Rattle.steps.specs.Events.{Tables}
 use Rattle.steps.specs.Framework.{batch}
 use Rattle.steps.specs.declared.Answer.{Answer}
 use Rattle.steps.specs.declared.Framework.{Framework}
@@ -13,9 +15,9 @@ use Rattle.sender.specs.declared.Reply.{Reply}
 abbrev pub replyOf : Answer → Reply
 replyOf a = record { refusal = a .refusal; actions = a .actions; «chance_used» = a .«chance_used»; «value_used» = a .«value_used» }
 
--- of a batch on the framework x, with the tables, time, events, tapes and output that were lent: the framework y, the
+-- of a batch on the framework x, with the tables, time, events, source of draws and output that were lent: the framework y, the
 -- reply r and the output z that it leaves
-pub record Promised (x : Framework) (T : Tables) (time : ℕ) (es : List ℕ) (D : Tapes) (out : List ℕ) (y : Framework) (r : Reply) (z : List ℕ) : Type 0 where
+pub record Promised (x : Framework) (T : Tables) (time : ℕ) (es : List ℕ) (D : Source Place) (out : List ℕ) (y : Framework) (r : Reply) (z : List ℕ) : Type 0 where
   pub framework : y ≡ batch x T time es D out .answer .framework
   pub reply : r ≡ replyOf (batch x T time es D out .answer)
   pub output : z ≡ batch x T time es D out .out

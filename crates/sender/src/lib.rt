@@ -3,7 +3,9 @@ use steps::Framework;
 use steps::Opened;
 ghost use mathlib.Core.Path.{_≡_};
 ghost use Rattle.steps.specs.Framework as Spec;
-ghost use Rattle.events.specs.Run.{tables, tapes};
+ghost use mathlib.Core.List.{[]};
+ghost use Rattle.machine.specs.Source.{tapes};
+ghost use Rattle.events.specs.Run.{tables};
 ghost use Rattle.sender.specs.Reply.{Promised};
 
 // A batch's answer without its framework: the refusal or 0, how many rows it wrote, and how many
@@ -27,7 +29,7 @@ pub extern "C" fn maybenot_opening(
     transitions: &[u64],
     values: &[f64],
 ) -> Opened
-    ensures { λ r. ⌜ r ≡ Spec.opening (tables (now (machines .entry)) (now (states .entry)) (now (transitions .entry))) «max_padding_frac» «max_blocking_frac» time (now (values .entry)) ⌝ }
+    ensures { λ r. ⌜ r ≡ Spec.opening (tables (now (machines .entry)) (now (states .entry)) (now (transitions .entry))) «max_padding_frac» «max_blocking_frac» time (tapes [] (now (values .entry))) ⌝ }
 {
     framework::opening(
         max_padding_frac,

@@ -1,13 +1,12 @@
 -- Demand 3: no padding budget is overdrawn. This file is the statement; the proof is in the files of
--- Budget/ and ends with `Theorem`. What stands in quotes is document 01's paragraph on what demand 3
--- counts, whole and in its order.
+-- Budget/, over the laws of Runs, Draws, Walk, Machines and Rows, and ends with `Theorem`. What stands
+-- in quotes is document 01's paragraph on what demand 3 counts, whole and in its order.
 --
 -- "Demand 3 counts the events and returned rows of its list's accepted batches, never the framework's
 -- own numbers."
 pub mod Sums
 pub mod Invariant
 pub mod Check
-pub mod Draws
 pub mod Machine
 pub mod Counts
 pub mod Runs
@@ -26,24 +25,28 @@ use lib.ListN.{getD}
 use lib.Dec.{T, eqb}
 use lib.Ieee.{Float, binary64, ofBits, lt, fits}
 use Rattle.numbers.specs.Fraction.{in1074}
+use Rattle.machine.specs.Source.{Source, Telling}
+use Rattle.machine.specs.declared.source.Place.{Place}
 use Rattle.machine.specs.Constants.{allowedPaddingPackets, maxPaddingFrac, sendPadding}
 use Rattle.machine.specs.Event.{normalSent, paddingSent}
-use Rattle.samples.specs.Dist.{zeroF}
-use Rattle.steps.specs.Events.{Tables, Tapes, machineWord}
+use Rattle.numbers.specs.Finite.{zeroF}
+use Rattle.steps.specs.Events.{Tables, machineWord}
 use Rattle.steps.specs.Framework.{opening, Batch, batch, rowsIn}
 use Rattle.steps.specs.declared.Framework.{Framework}
 
--- ---- a batch of a list: what the sender lends
+-- ---- a batch of a list: what the sender lends. Its source tells why it refuses, as two tapes do
+-- (`tapes-tell`).
 pub record Call : Type 0 where
   pub tables : Tables
   pub time : ℕ
   pub events : List ℕ
-  pub tapes : Tapes
+  pub source : Source Place
+  pub tells : Telling source
   pub out : List ℕ
 
 -- its answer and output, its refusal or 0, and the framework that it returns, where it gets the framework x
 abbrev pub answerOf : Framework → Call → Batch
-answerOf x c = batch x (c .tables) (c .time) (c .events) (c .tapes) (c .out)
+answerOf x c = batch x (c .tables) (c .time) (c .events) (c .source) (c .out)
 
 abbrev pub refusalOf : Framework → Call → ℕ
 refusalOf x c = answerOf x c .answer .refusal
@@ -154,12 +157,13 @@ pub record Budgets (tables : Tables) (F : Float) (l : Ledger) : Type 0 where
       + (sum (rowsIn (tables .machines)) (allowance tables) + 4 * rowsIn (tables .machines)) * 2 ^ 1074
 
 -- ---- "It is a single claim about the list, not one for each call." The opening: tables, both
--- fractions, of which F is the padding fraction and an f64, time and value tape.
+-- fractions, of which F is the padding fraction and an f64, time and source.
 abbrev pub NoBudgetOverdrawn : Type 0
 NoBudgetOverdrawn =
-    (tables : Tables) (F blocking : Float) (time : ℕ) (values : List Float) (cs : List Call)
+    (tables : Tables) (F blocking : Float) (time : ℕ) (source : Source Place) (cs : List Call)
+    → Telling source
     → T (fits binary64 F)
-    → opening tables F blocking time values .refusal ≡ 0
-    → Lists tables empty (opening tables F blocking time values .framework) cs
-    → packets (ledger empty (opening tables F blocking time values .framework) cs) ≤ 2 ^ 53
-    → Budgets tables F (ledger empty (opening tables F blocking time values .framework) cs)
+    → opening tables F blocking time source .refusal ≡ 0
+    → Lists tables empty (opening tables F blocking time source .framework) cs
+    → packets (ledger empty (opening tables F blocking time source .framework) cs) ≤ 2 ^ 53
+    → Budgets tables F (ledger empty (opening tables F blocking time source .framework) cs)

@@ -6,22 +6,23 @@ use mathlib.Core.List.{List, [], _∷_, _++_}
 use mathlib.Core.Path.{_≡_, refl}
 use lib.IntN.{pos}
 use lib.Ieee.{Float, inf, fin, binary64, ofBits, ofInt, toUnsigned, add, lt, le, eq, div}
-use Rattle.numbers.specs.Finite.{isFinite}
+use Rattle.numbers.specs.Finite.{zeroF, isFinite}
 use Rattle.numbers.specs.Fraction.{reached}
 use Rattle.numbers.specs.Round.{roundAway}
 use Rattle.machine.specs.Constants.{action, timeout, counterA, counterB, sendPadding, decrement, setTo}
 use Rattle.machine.specs.Event.{normalSent, counterZero}
-use Rattle.machine.specs.State.{rowsOf, chanceDraw, walk, sampleState}
+use Rattle.machine.specs.Source.{tapeValues, tapes, place, chanceDraw}
+use Rattle.machine.specs.State.{rowsOf, walk, sampleState}
 use Rattle.machine.specs.declared.state.Next.{Next}
 use Rattle.machine.specs.declared.state.Next.the-variants.{State}
-use Rattle.samples.specs.Dist.{zeroF, distType, distAt, uniformDraw, outsideDraw, distSample, orZero, capped, adjusted, sample, gotWhole}
+use Rattle.samples.specs.Dist.{distType, distAt, uniformDraw, outsideDraw, distSample, orZero, capped, adjusted, sample, gotWhole}
 use Rattle.samples.specs.Action.{sampleTimeout, sampleLimit, hasLimit}
 use Rattle.samples.specs.Counter.{sampleValue}
 use Rattle.samples.specs.declared.dist.DistType.the-variants.{Outside}
 use Rattle.samples.specs.declared.dist.Dist.{Dist}
 use Rattle.samples.specs.declared.dist.WholeDrawn.{WholeDrawn}
 use Rattle.steps.specs.Limits.{belowFraction, belowLimitPadding, belowActionLimits}
-use Rattle.steps.specs.Transition.{Env, env, noAction, enter, applied, updateOne, updateCounter, finish, transitionBy, zeroTransition, transition}
+use Rattle.steps.specs.Transition.{Env, env, noAction, enter, applied, updateOne, tallyA, tallyB, updateCounters, updateCounter, finish, transitionBy, zeroTransition, transition}
 use Rattle.steps.specs.Framework.{sharedFrom}
 use Rattle.steps.specs.Example.{stateWith, pairFirst, pairCount, f32, f64, half32, one32, half64, one64, two64, five64}
 use Rattle.steps.specs.declared.MachineRuntime.{MachineRuntime}
@@ -40,7 +41,7 @@ pub data Answer : Type 0 where
 
 abbrev machineOf : Stepped → Answer
 machineOf (Refused n) = none
-machineOf (Done d) = machine (d .runtime .«current_state») (d .runtime .«counter_a») (d .runtime .«counter_b»)
+machineOf (Done d) = machine (d .runtime .«current_state») (d .runtime .counters .«counter_a») (d .runtime .counters .«counter_b»)
 
 -- each answer is the expected one
 abbrev pub Rows : List (Answer × Answer) → Type 0
@@ -53,13 +54,10 @@ abbrev runtimeOf : (limit padding normal a b : ℕ) → MachineRuntime
 runtimeOf limit padding normal a b = record {
   «current_state» = 0;
   «state_limit» = limit;
-  «padding_sent» = padding;
-  «normal_sent» = normal;
-  «blocking_duration» = 0;
+  counts = record { «padding_sent» = padding; «normal_sent» = normal; «blocking_duration» = 0 };
   «machine_start» = 0;
   «allowed_blocked_microsec» = 0;
-  «counter_a» = a;
-  «counter_b» = b;
+  counters = record { «counter_a» = a; «counter_b» = b };
 }
 
 abbrev underHalf : (padding normal : ℕ) → Context
@@ -70,13 +68,13 @@ underHalf padding normal = record {
   «machine_blocking_frac» = zeroF;
   «current_time» = 0;
   «max_padding_frac» = zeroF;
+  «max_blocking_frac» = zeroF;
+  «framework_start» = 0;
   «normal_sent_packets» = normal;
   «padding_sent_packets» = padding;
-  «max_blocking_frac» = zeroF;
   «blocking_duration» = 0;
   «blocking_started» = 0;
   «blocking_active» = 0;
-  «framework_start» = 0;
 }
 
 abbrev passes : (limit padding normal : ℕ) → Answer
@@ -97,7 +95,7 @@ counting words =
     env
     (stateWith ((pairFirst normalSent, 0) ∷ (pairCount normalSent, 1) ∷ [])
     ++ stateWith ((pairFirst counterZero, 1) ∷ (pairCount counterZero, 1) ∷ words) ++ stateWith [])
-    (1 ∷ one32 ∷ 2 ∷ one32 ∷ []) (f32 half32 ∷ f32 half32 ∷ []) [] (underHalf 0 0)
+    (1 ∷ one32 ∷ 2 ∷ one32 ∷ []) (tapes (f32 half32 ∷ f32 half32 ∷ []) []) (underHalf 0 0)
 
 abbrev afterNormalSent : List (ℕ × ℕ) → (a b : ℕ) → Answer
 afterNormalSent words a b = machineOf (transition (counting words) normalSent (runtimeOf 0 0 0 a b) (sharedFrom 0) noAction)
@@ -105,8 +103,8 @@ afterNormalSent words a b = machineOf (transition (counting words) normalSent (r
 abbrev pub table : List (Answer × Answer)
 table =
     -- sample 7.5 gives timeout 8 and counter value 7
-    (drawn (sampleTimeout drawsOutside (f64 0x401e_0000_0000_0000 ∷ []) 0), drawn (gotWhole 8 1)) ∷
-    (drawn (sampleValue drawsOutside counterA (f64 0x401e_0000_0000_0000 ∷ []) 0), drawn (gotWhole 7 1)) ∷
+    (drawn (sampleTimeout drawsOutside (tapeValues (f64 0x401e_0000_0000_0000 ∷ [])) (place 0 0)), drawn (gotWhole 8 (place 0 1))) ∷
+    (drawn (sampleValue drawsOutside counterA (tapeValues (f64 0x401e_0000_0000_0000 ∷ [])) (place 0 0)), drawn (gotWhole 7 (place 0 1))) ∷
     -- -3 with start 1 gives 0; infinity gives 0; 2.5 with max 2 gives 2
     (float (adjusted (outside (f64 one64) zeroF) (f64 0xc008_0000_0000_0000)), float zeroF) ∷
     (float (adjusted (outside zeroF zeroF) (inf false)), float zeroF) ∷
@@ -132,5 +130,5 @@ unfolding
     sampleTimeout sampleLimit hasLimit sampleValue sample distSample distAt distType uniformDraw
     outsideDraw adjusted orZero capped isFinite roundAway toUnsigned ofBits ofInt add lt le eq div
     reached belowFraction belowLimitPadding belowActionLimits rowsOf chanceDraw walk sampleState enter
-    applied updateOne updateCounter finish transitionBy zeroTransition
+    applied updateOne updateCounter updateCounters tallyA tallyB finish transitionBy zeroTransition
 table-holds = (refl, (refl, (refl, (refl, (refl, (refl, (refl, (refl, (refl, (refl, (refl, (refl, (refl, tt)))))))))))))

@@ -6,18 +6,27 @@ use mathlib.Core.Bool.{Bool, true, false, cond, _&&_, _||_}
 use lib.ListN.{length, getD, set, drop, replicate}
 use lib.Dec.{ltb, leb, eqb}
 use lib.Ieee.{Float}
-use Rattle.machine.specs.Constants.{machineMax, machineWords, allowedBlockedMicrosec, numStates, stateEnd}
+use Rattle.numbers.specs.Finite.{zeroF}
+use Rattle.machine.specs.Constants.{machineMax, machineWords, rowWords, allowedBlockedMicrosec, numStates, stateEnd}
+use Rattle.machine.specs.Source.{Values, Source, place}
+use Rattle.machine.specs.Event.{timerEndKind}
 use Rattle.machine.specs.State.{stateRow}
+use Rattle.machine.specs.declared.source.Place.{Place}
 use Rattle.samples.specs.Action.{actionOf, sampleLimit}
-use Rattle.samples.specs.Dist.{zeroF, gotWhole}
+use Rattle.samples.specs.Dist.{gotWhole}
 use Rattle.samples.specs.declared.dist.WholeDrawn.{WholeDrawn}
-use Rattle.samples.specs.declared.dist.WholeDrawn.the-variants.{NoWhole, GotWhole}
+use Rattle.samples.specs.declared.dist.WholeDrawn.the-variants.{Refused, GotWhole}
 use Rattle.tables.specs.First.{orElse}
 use Rattle.tables.specs.Framework.{fractionsRefusal}
 use Rattle.tables.specs.Machine.{tablesRefusal}
-use Rattle.steps.specs.Transition.{noAction, withValueAt}
-use Rattle.steps.specs.Events.{Tables, Tapes, Run, Outcome, stop, go, andThen, each, noRuntime, numMachines, runtimeAt, withRuntime, machineWord, statesOf, eventTurn, kindAt, signals}
+use Rattle.steps.specs.Transition.{noAction, withPlace}
+use Rattle.steps.specs.Events.{Tables, Run, Outcome, stop, go, andThen, each, noCounts, noCounters, noRuntime, numMachines, runtimeAt, withRuntime, machineWord, statesOf, eventTurn, kindAt, signals}
 use Rattle.steps.specs.declared.MachineRuntime.{MachineRuntime}
+use Rattle.steps.specs.declared.Entered.{Entered}
+use Rattle.steps.specs.declared.Entered.the-variants.{Refused, In}
+use Rattle.steps.specs.declared.Fixed.{Fixed}
+use Rattle.steps.specs.declared.Totals.{Totals}
+use Rattle.steps.specs.declared.Zeroed.{Zeroed}
 use Rattle.steps.specs.declared.Framework.{Framework}
 use Rattle.steps.specs.declared.Shared.{Shared}
 use Rattle.steps.specs.declared.TriggerAction.{TriggerAction}
@@ -25,90 +34,84 @@ use Rattle.steps.specs.declared.Opened.{Opened}
 use Rattle.steps.specs.declared.Answer.{Answer}
 
 -- ---- a call begins: no actions, no counter has reported zero, both tapes at their front
+abbrev pub noneZeroed : Zeroed
+noneZeroed = record { «counter_a» = false; «counter_b» = false }
+
 abbrev pub sharedFrom : ℕ → Shared
-sharedFrom pending = record {
-  «signal_pending» = pending;
-  «counter_a_zeroed» = false;
-  «counter_b_zeroed» = false;
-  «chance_at» = 0;
-  «value_at» = 0;
-}
+sharedFrom pending = record { «signal_pending» = pending; place = place 0 0; zeroed = noneZeroed }
 
 abbrev pub noActions : List TriggerAction
 noActions = replicate machineMax noAction
 
 -- ---- the opening
-abbrev pub noFramework : Framework
-noFramework = record {
-  machines = 0;
-  «current_time» = 0;
-  «max_padding_frac» = zeroF;
+abbrev pub fixed : Float → Float → ℕ → Fixed
+fixed padding blocking time = record { «max_padding_frac» = padding; «max_blocking_frac» = blocking; «framework_start» = time }
+
+-- blocking is off
+abbrev pub noTotals : ℕ → Totals
+noTotals time = record {
   «normal_sent_packets» = 0;
   «padding_sent_packets» = 0;
-  «max_blocking_frac» = zeroF;
   «blocking_duration» = 0;
-  «blocking_started» = 0;
+  «blocking_started» = time;
   «blocking_active» = 0;
-  «signal_pending» = 0;
-  «framework_start» = 0;
-  runtime = replicate machineMax noRuntime;
 }
 
--- before its machines are in: blocking is off, and counts from the opening's time
+-- before its machines are in; blocking counts from the opening's time
 abbrev pub newFramework : ℕ → Float → Float → ℕ → Framework
 newFramework machines padding blocking time = record {
   machines = machines;
   «current_time» = time;
-  «max_padding_frac» = padding;
-  «normal_sent_packets» = 0;
-  «padding_sent_packets» = 0;
-  «max_blocking_frac» = blocking;
-  «blocking_duration» = 0;
-  «blocking_started» = time;
-  «blocking_active» = 0;
   «signal_pending» = 0;
-  «framework_start» = time;
+  fixed = fixed padding blocking time;
+  totals = noTotals time;
   runtime = replicate machineMax noRuntime;
 }
+
+abbrev pub noFramework : Framework
+noFramework = newFramework 0 zeroF zeroF 0
 
 abbrev pub newRuntime : ℕ → ℕ → ℕ → MachineRuntime
 newRuntime time allowed limit = record {
   «current_state» = 0;
   «state_limit» = limit;
-  «padding_sent» = 0;
-  «normal_sent» = 0;
-  «blocking_duration» = 0;
+  counts = noCounts;
   «machine_start» = time;
   «allowed_blocked_microsec» = allowed;
-  «counter_a» = 0;
-  «counter_b» = 0;
+  counters = noCounters;
 }
 
 -- the start state's limit; without an action it stays 0
-unfoldable pub startLimit : List ℕ → List Float → ℕ → WholeDrawn
+unfoldable pub startLimit : List ℕ → Values Place → Place → WholeDrawn
 startLimit row values at = cond (eqb (actionOf row) 0) (gotWhole 0 at) (sampleLimit row values at)
 
-abbrev pub opened : Tables → ℕ → Run → WholeDrawn → Outcome
-opened T i x (NoWhole n) = stop n
-opened T i x (GotWhole w) = go (record {
-  framework =
-      withRuntime (x .framework)
-      (set (x .framework .runtime) i
-      (newRuntime (x .framework .«current_time») (machineWord (T .machines) i allowedBlockedMicrosec) (w .value)));
+-- machine i as it opens at a time, and where the source goes on
+abbrev pub openedWith : ℕ → ℕ → WholeDrawn → Entered
+openedWith time allowed (Refused n) = Refused n
+openedWith time allowed (GotWhole w) = In (newRuntime time allowed (w .value)) (w .at)
+
+unfoldable pub openMachine : Tables → Values Place → ℕ → ℕ → Place → Entered
+openMachine T values i time at =
+    openedWith time (machineWord (T .machines) i allowedBlockedMicrosec) (startLimit (stateRow (statesOf T i) 0) values at)
+
+abbrev pub opened : ℕ → Run → Entered → Outcome
+opened i x (Refused n) = stop n
+opened i x (In r at) = go (record {
+  framework = withRuntime (x .framework) (set (x .framework .runtime) i r);
   actions = x .actions;
-  shared = withValueAt (x .shared) (w .at);
+  shared = withPlace (x .shared) at;
 })
 
-unfoldable pub openTurn : Tables → List Float → ℕ → Run → Outcome
-openTurn T values i x = opened T i x (startLimit (stateRow (statesOf T i) 0) values (x .shared .«value_at»))
+abbrev pub openTurn : Tables → Source Place → ℕ → Run → Outcome
+openTurn T source i x = opened i x (openMachine T (source .values) i (x .framework .«current_time») (x .shared .place))
 
 -- how many machines a table has
 abbrev pub rowsIn : List ℕ → ℕ
 rowsIn machines = length machines / machineWords
 
-abbrev pub openRun : Tables → Float → Float → ℕ → List Float → Outcome
-openRun T padding blocking time values =
-    each (openTurn T values) (rowsIn (T .machines)) 0
+abbrev pub openRun : Tables → Float → Float → ℕ → Source Place → Outcome
+openRun T padding blocking time source =
+    each (openTurn T source) (rowsIn (T .machines)) 0
     (record { framework = newFramework (rowsIn (T .machines)) padding blocking time; actions = noActions; shared = sharedFrom 0 })
 
 -- a refused opening: the number, a framework with no machines, all zero
@@ -116,16 +119,16 @@ abbrev pub openedBy : Outcome → Opened
 openedBy (stop n) = record { refusal = n; «chance_used» = 0; «value_used» = 0; framework = noFramework }
 openedBy (go x) = record {
   refusal = 0;
-  «chance_used» = x .shared .«chance_at»;
-  «value_used» = x .shared .«value_at»;
+  «chance_used» = x .shared .place .«chance_at»;
+  «value_used» = x .shared .place .«value_at»;
   framework = x .framework;
 }
 
 -- Framework::new
-unfoldable pub opening : Tables → Float → Float → ℕ → List Float → Opened
-opening T padding blocking time values =
+unfoldable pub opening : Tables → Float → Float → ℕ → Source Place → Opened
+opening T padding blocking time source =
     let n = orElse (fractionsRefusal padding blocking) (tablesRefusal (T .machines) (T .states) (T .transitions)) in
-    cond (eqb n 0) (openedBy (openRun T padding blocking time values)) (openedBy (stop n))
+    cond (eqb n 0) (openedBy (openRun T padding blocking time source)) (openedBy (stop n))
 
 -- ---- what a batch refuses before it runs
 -- 18: a current state that is neither ended nor in the machine, of the first n machines
@@ -145,7 +148,7 @@ fitsTables T fw =
 -- 19: a kind above 9, of the first n events
 unfoldable pub kindsFit : List ℕ → ℕ → Bool
 kindsFit es zero = true
-kindsFit es (suc n) = kindsFit es n && leb (kindAt es n) 9
+kindsFit es (suc n) = kindsFit es n && leb (kindAt es n) timerEndKind
 
 unfoldable pub eventsFit : List ℕ → Bool
 eventsFit es = eqb (length es % 2) 0 && kindsFit es (length es / 2)
@@ -156,7 +159,7 @@ batchRefusal fw T es out =
     orElse (tablesRefusal (T .machines) (T .states) (T .transitions))
     (cond (fitsTables T fw)
     (cond (eventsFit es)
-    (cond (ltb (length out) (6 * rowsIn (T .machines))) 20 0)
+    (cond (ltb (length out) (rowWords * rowsIn (T .machines))) 20 0)
     19)
     18)
 
@@ -165,15 +168,9 @@ abbrev pub withTime : Framework → ℕ → Framework
 withTime fw time = record {
   machines = fw .machines;
   «current_time» = time;
-  «max_padding_frac» = fw .«max_padding_frac»;
-  «normal_sent_packets» = fw .«normal_sent_packets»;
-  «padding_sent_packets» = fw .«padding_sent_packets»;
-  «max_blocking_frac» = fw .«max_blocking_frac»;
-  «blocking_duration» = fw .«blocking_duration»;
-  «blocking_started» = fw .«blocking_started»;
-  «blocking_active» = fw .«blocking_active»;
   «signal_pending» = fw .«signal_pending»;
-  «framework_start» = fw .«framework_start»;
+  fixed = fw .fixed;
+  totals = fw .totals;
   runtime = fw .runtime;
 }
 
@@ -181,22 +178,16 @@ abbrev pub withPending : Framework → ℕ → Framework
 withPending fw pending = record {
   machines = fw .machines;
   «current_time» = fw .«current_time»;
-  «max_padding_frac» = fw .«max_padding_frac»;
-  «normal_sent_packets» = fw .«normal_sent_packets»;
-  «padding_sent_packets» = fw .«padding_sent_packets»;
-  «max_blocking_frac» = fw .«max_blocking_frac»;
-  «blocking_duration» = fw .«blocking_duration»;
-  «blocking_started» = fw .«blocking_started»;
-  «blocking_active» = fw .«blocking_active»;
   «signal_pending» = pending;
-  «framework_start» = fw .«framework_start»;
+  fixed = fw .fixed;
+  totals = fw .totals;
   runtime = fw .runtime;
 }
 
 abbrev pub begin : Framework → ℕ → Run
 begin fw time = record { framework = withTime fw time; actions = noActions; shared = sharedFrom (fw .«signal_pending») }
 
-unfoldable pub triggerEvents : Tables → Tapes → ℕ → List ℕ → Framework → Outcome
+unfoldable pub triggerEvents : Tables → Source Place → ℕ → List ℕ → Framework → Outcome
 triggerEvents T D time es fw = andThen (each (eventTurn T D es) (length es / 2) 0 (begin fw time)) (signals T D)
 
 -- ---- the output: one row of six words for each action, in machine order
@@ -231,9 +222,9 @@ abbrev pub accepted : Run → List ℕ → Batch
 accepted x out = record {
   answer = record {
     refusal = 0;
-    actions = length (returnedBy x) / 6;
-    «chance_used» = x .shared .«chance_at»;
-    «value_used» = x .shared .«value_at»;
+    actions = length (returnedBy x) / rowWords;
+    «chance_used» = x .shared .place .«chance_at»;
+    «value_used» = x .shared .place .«value_at»;
     framework = withPending (x .framework) (x .shared .«signal_pending»);
   };
   out = written (returnedBy x) out;
@@ -243,7 +234,7 @@ abbrev pub concluded : Framework → List ℕ → Outcome → Batch
 concluded fw out (stop n) = refused fw out n
 concluded fw out (go x) = accepted x out
 
-unfoldable pub batch : Framework → Tables → ℕ → List ℕ → Tapes → List ℕ → Batch
+unfoldable pub batch : Framework → Tables → ℕ → List ℕ → Source Place → List ℕ → Batch
 batch fw T time es D out =
     let n = batchRefusal fw T es out in
     cond (eqb n 0) (concluded fw out (triggerEvents T D time es fw)) (refused fw out n)

@@ -5,11 +5,11 @@ use mathlib.Core.Bool.{Bool, true, false, cond, not, _&&_}
 use lib.ListN.{getD}
 use lib.Dec.{ltb, eqb}
 use lib.Ieee.{Float, lt}
+use Rattle.numbers.specs.Finite.{zeroF}
 use Rattle.numbers.specs.Fraction.{reached}
 use Rattle.numbers.specs.Saturating.{saturatingAdd}
 use Rattle.machine.specs.Constants.{flags, sendPadding, blockOutgoing, updateTimer}
 use Rattle.samples.specs.Action.{actionOf}
-use Rattle.samples.specs.Dist.{zeroF}
 use Rattle.steps.specs.declared.MachineRuntime.{MachineRuntime}
 use Rattle.steps.specs.declared.Context.{Context}
 
@@ -37,17 +37,18 @@ belowFraction f p n rest =
 -- below_limit_padding: the machine's allowance first, then its fraction, the framework's, and the state limit
 unfoldable pub belowLimitPadding : Context → MachineRuntime → Bool
 belowLimitPadding c r =
-    cond (ltb (r .«padding_sent») (c .«allowed_padding_packets»)) (limitLeft r)
-    (belowFraction (c .«machine_padding_frac») (r .«padding_sent») (r .«normal_sent»)
+    cond (ltb (r .counts .«padding_sent») (c .«allowed_padding_packets»)) (limitLeft r)
+    (belowFraction (c .«machine_padding_frac») (r .counts .«padding_sent») (r .counts .«normal_sent»)
     (belowFraction (c .«max_padding_frac») (c .«padding_sent_packets») (c .«normal_sent_packets») (limitLeft r)))
 
 -- ---- blocking
-abbrev pub blockingOn : Context → Bool
-blockingOn c = not (eqb (c .«blocking_active») 0)
+-- of the word `blocking_active`
+abbrev pub blockingOn : ℕ → Bool
+blockingOn active = not (eqb active 0)
 
 -- blocked time takes in the ongoing part
 abbrev pub withOngoing : Context → ℕ → ℕ
-withOngoing c d = cond (blockingOn c) (saturatingAdd d (c .«current_time» - c .«blocking_started»)) d
+withOngoing c d = cond (blockingOn (c .«blocking_active»)) (saturatingAdd d (c .«current_time» - c .«blocking_started»)) d
 
 -- a fraction above 0 is reached by blocked time over time
 abbrev pub blockingReached : Float → ℕ → ℕ → Bool
@@ -56,9 +57,9 @@ blockingReached f blocked since = cond (lt zeroF f) (reached blocked since f) fa
 -- below_limit_blocking: replacing ongoing blocking and the machine's allowance come first, then both fractions, then the state limit
 unfoldable pub belowLimitBlocking : Context → MachineRuntime → Bool → Bool
 belowLimitBlocking c r replace =
-    cond (replace && blockingOn c) (limitLeft r)
-    (cond (ltb (withOngoing c (r .«blocking_duration»)) (r .«allowed_blocked_microsec»)) (limitLeft r)
-    (cond (blockingReached (c .«machine_blocking_frac») (withOngoing c (r .«blocking_duration»)) (c .«current_time» - r .«machine_start»)) false
+    cond (replace && blockingOn (c .«blocking_active»)) (limitLeft r)
+    (cond (ltb (withOngoing c (r .counts .«blocking_duration»)) (r .«allowed_blocked_microsec»)) (limitLeft r)
+    (cond (blockingReached (c .«machine_blocking_frac») (withOngoing c (r .counts .«blocking_duration»)) (c .«current_time» - r .«machine_start»)) false
     (cond (blockingReached (c .«max_blocking_frac») (withOngoing c (c .«blocking_duration»)) (c .«current_time» - c .«framework_start»)) false
     (limitLeft r))))
 

@@ -7,21 +7,22 @@ use mathlib.Core.List.{[], _∷_}
 use mathlib.Core.Path.{_≡_, refl}
 use lib.ListN.{replicate}
 use lib.Ieee.{ofBits, add, sub, lt, le, eq}
-use Rattle.numbers.specs.Finite.{isFinite}
+use Rattle.numbers.specs.Finite.{zeroF, isFinite}
 use Rattle.numbers.specs.Round.{roundAway}
 use Rattle.machine.specs.Constants.{action, timeout, sendPadding, stateLimitMax}
 use Rattle.machine.specs.Event.{eventOf, normalSent}
-use Rattle.machine.specs.State.{rowsOf, chanceDraw, walk, sampleState}
-use Rattle.samples.specs.Dist.{zeroF, distType, distAt, validUniform, validate, uniformDraw, distSample, orZero, capped, adjusted, sample}
+use Rattle.machine.specs.Source.{tapes, chanceDraw}
+use Rattle.machine.specs.State.{rowsOf, walk, sampleState}
+use Rattle.samples.specs.Dist.{distType, distAt, validUniform, validate, uniformDraw, distSample, orZero, capped, adjusted, sample}
 use Rattle.samples.specs.Action.{sampleTimeout, sampleDuration, sampleLimit, hasLimit}
 use Rattle.tables.specs.First.{orElse, firstRefusal}
 use Rattle.tables.specs.State.{eventsRefusal, pairRefusal, rowRefusal, sumRefusal, transitionRefusal, isTarget, improbable, seenIn, sumFrom, codesUnknown, actionUnknown, commonUnknown, neededUnknown, counterUnknown, distsInvalid, actionInvalid, counterInvalid, invalid, stateRefusal}
 use Rattle.tables.specs.Machine.{beyondFraction, eachState, statesRefusal, machineRefusal, wholeTables, tablesRefusal}
 use Rattle.tables.specs.Framework.{isFraction, fractionsRefusal}
 use Rattle.steps.specs.Limits.{belowFraction, belowLimitPadding, belowActionLimits}
-use Rattle.steps.specs.Transition.{enter, scheduleAction, updateOne, updateCounter, finish, transitionBy}
-use Rattle.steps.specs.Events.{Tables, Tapes, each, noRuntime, countedBy, blockedFor, accounted, turn, machineTurn, processEvent, signals}
-use Rattle.steps.specs.Framework.{startLimit, openTurn, opening, statesFit, fitsTables, kindsFit, eventsFit, batchRefusal, triggerEvents, actionRows, Batch, batch}
+use Rattle.steps.specs.Transition.{enter, scheduleAction, updateOne, tallyA, tallyB, updateCounters, updateCounter, finish, transitionBy}
+use Rattle.steps.specs.Events.{Tables, each, noRuntime, countsAfter, blockedFor, totalsAfter, turn, machineTurn, processEvent, signals}
+use Rattle.steps.specs.Framework.{startLimit, openMachine, opening, statesFit, fitsTables, kindsFit, eventsFit, batchRefusal, triggerEvents, actionRows, Batch, batch}
 use Rattle.steps.specs.Example.{stateWith, pairFirst, pairCount, quarter32, one32, ten64, f32}
 use Rattle.steps.specs.declared.Framework.{Framework}
 use Rattle.steps.specs.declared.Opened.{Opened}
@@ -41,26 +42,23 @@ abbrev after : (time normal : ℕ) → Framework
 after time normal = record {
   machines = 1;
   «current_time» = time;
-  «max_padding_frac» = zeroF;
-  «normal_sent_packets» = normal;
-  «padding_sent_packets» = 0;
-  «max_blocking_frac» = zeroF;
-  «blocking_duration» = 0;
-  «blocking_started» = 0;
-  «blocking_active» = 0;
   «signal_pending» = 0;
-  «framework_start» = 0;
+  fixed = record { «max_padding_frac» = zeroF; «max_blocking_frac» = zeroF; «framework_start» = 0 };
+  totals = record {
+    «normal_sent_packets» = normal;
+    «padding_sent_packets» = 0;
+    «blocking_duration» = 0;
+    «blocking_started» = 0;
+    «blocking_active» = 0;
+  };
   runtime =
       record {
         «current_state» = 0;
         «state_limit» = stateLimitMax;
-        «padding_sent» = 0;
-        «normal_sent» = normal;
-        «blocking_duration» = 0;
+        counts = record { «padding_sent» = 0; «normal_sent» = normal; «blocking_duration» = 0 };
         «machine_start» = 0;
         «allowed_blocked_microsec» = 0;
-        «counter_a» = 0;
-        «counter_b» = 0;
+        counters = record { «counter_a» = 0; «counter_b» = 0 };
       } ∷ replicate 15 noRuntime;
 }
 
@@ -74,28 +72,25 @@ answered = record {
   out = 0 ∷ 2 ∷ 0 ∷ 0 ∷ 10 ∷ 0 ∷ 9 ∷ [];
 }
 
-pub opens : opening tables zeroF zeroF 0 [] ≡ accepted
+pub opens : opening tables zeroF zeroF 0 (tapes [] []) ≡ accepted
 unfolding
     opening fractionsRefusal isFraction validUniform tablesRefusal orElse firstRefusal wholeTables
     machineRefusal beyondFraction statesRefusal eachState stateRefusal eventsRefusal pairRefusal
     rowRefusal sumRefusal transitionRefusal isTarget improbable seenIn sumFrom codesUnknown
     actionUnknown commonUnknown neededUnknown counterUnknown distsInvalid actionInvalid counterInvalid
-    invalid validate distAt distType isFinite rowsOf openTurn startLimit sampleLimit hasLimit each
+    invalid validate distAt distType isFinite rowsOf openMachine startLimit sampleLimit hasLimit each
     ofBits lt le add sub
 opens = refl
 
-abbrev tapes : Tapes
-tapes = record { chances = f32 quarter32 ∷ []; values = [] }
-
-pub runs : batch (after 0 0) tables 5 (normalSent ∷ 0 ∷ []) tapes (replicate 7 9) ≡ answered
+pub runs : batch (after 0 0) tables 5 (normalSent ∷ 0 ∷ []) (tapes (f32 quarter32 ∷ []) []) (replicate 7 9) ≡ answered
 unfolding
     validUniform batch batchRefusal fitsTables statesFit eventsFit kindsFit tablesRefusal orElse
     firstRefusal wholeTables machineRefusal beyondFraction statesRefusal eachState stateRefusal
     eventsRefusal pairRefusal rowRefusal sumRefusal transitionRefusal isTarget improbable seenIn
     sumFrom codesUnknown actionUnknown commonUnknown neededUnknown counterUnknown distsInvalid
     actionInvalid counterInvalid invalid validate distAt distType isFinite rowsOf each ofBits lt le add
-    sub triggerEvents processEvent accounted blockedFor machineTurn turn countedBy eventOf transitionBy
-    chanceDraw sampleState walk enter updateCounter updateOne belowActionLimits belowLimitPadding
+    sub triggerEvents processEvent totalsAfter blockedFor machineTurn turn countsAfter eventOf transitionBy
+    chanceDraw sampleState walk enter updateCounter updateCounters tallyA tallyB updateOne belowActionLimits belowLimitPadding
     belowFraction finish scheduleAction sampleTimeout sampleDuration sample distSample uniformDraw eq
     adjusted capped orZero roundAway signals actionRows
 runs = refl

@@ -1,36 +1,60 @@
-// The types of framework.rs. The definitions of its steps stand in specs/; the code that equals them is in `transition` and
-// `framework`.
+// The types of framework.rs. The definitions of its steps stand in specs/; the code that equals them is in `transition`,
+// `events` and `framework`. Records are made of parts, so that what a step changes is one of them.
+use machine::source::Place;
 
-// One machine's state (framework.rs: MachineRuntime). Times and durations are in microseconds.
+// What events count for one machine. Durations are in microseconds.
 #[repr(C)]
-pub struct MachineRuntime {
-    pub current_state: u64,
-    pub state_limit: u64,
+pub struct Counts {
     pub padding_sent: u64,
     pub normal_sent: u64,
     pub blocking_duration: u64,
-    pub machine_start: u64,
-    pub allowed_blocked_microsec: u64,
+}
+
+// A machine's counters.
+#[repr(C)]
+pub struct Counters {
     pub counter_a: u64,
     pub counter_b: u64,
 }
 
+// One machine's state (framework.rs: MachineRuntime). Times are in microseconds.
+#[repr(C)]
+pub struct MachineRuntime {
+    pub current_state: u64,
+    pub state_limit: u64,
+    pub counts: Counts,
+    pub machine_start: u64,
+    pub allowed_blocked_microsec: u64,
+    pub counters: Counters,
+}
+
+// What an opening fixes: the framework's fractions, and when it was opened.
+#[repr(C)]
+pub struct Fixed {
+    pub max_padding_frac: f64,
+    pub max_blocking_frac: f64,
+    pub framework_start: u64,
+}
+
+// What events count for the framework. Blocking is on where `blocking_active` is not 0.
+#[repr(C)]
+pub struct Totals {
+    pub normal_sent_packets: u64,
+    pub padding_sent_packets: u64,
+    pub blocking_duration: u64,
+    pub blocking_started: u64,
+    pub blocking_active: u64,
+}
+
 // An instance of the framework, as the sender keeps it between calls. It holds no enum and no bool, so every pattern of words has
-// a meaning: `blocking_active` is on where it is not 0, and `signal_pending` is 0 for none, 1 for all machines, 2 + m for all
-// but machine m.
+// a meaning: `signal_pending` is 0 for none, 1 for all machines, 2 + m for all but machine m.
 #[repr(C)]
 pub struct Framework {
     pub machines: u64,
     pub current_time: u64,
-    pub max_padding_frac: f64,
-    pub normal_sent_packets: u64,
-    pub padding_sent_packets: u64,
-    pub max_blocking_frac: f64,
-    pub blocking_duration: u64,
-    pub blocking_started: u64,
-    pub blocking_active: u64,
     pub signal_pending: u64,
-    pub framework_start: u64,
+    pub fixed: Fixed,
+    pub totals: Totals,
     pub runtime: [MachineRuntime; 16],
 }
 
@@ -43,17 +67,21 @@ pub struct TriggerAction {
     pub duration: u64,
 }
 
-// What one call threads through all machines: the pending signal, which counters have reported zero (counter_zeroed_once), and
-// where the two tapes go on.
-pub struct Shared {
-    pub signal_pending: u64,
-    pub counter_a_zeroed: bool,
-    pub counter_b_zeroed: bool,
-    pub chance_at: usize,
-    pub value_at: usize,
+// Which counters have reported zero in this call (framework.rs: counter_zeroed_once).
+pub struct Zeroed {
+    pub counter_a: bool,
+    pub counter_b: bool,
 }
 
-// What a machine's transition reads and does not change: its number and its row's limits, then the framework's own numbers.
+// What one call threads through all machines: the pending signal, where the tapes go on, and which counters have reported zero.
+pub struct Shared {
+    pub signal_pending: u64,
+    pub place: Place,
+    pub zeroed: Zeroed,
+}
+
+// What a machine's transition reads and does not change: its number and its row's limits, then the framework's own numbers, flat,
+// so that it is lent on without a copy.
 pub struct Context {
     pub machine: u64,
     pub allowed_padding_packets: u64,
@@ -61,13 +89,13 @@ pub struct Context {
     pub machine_blocking_frac: f64,
     pub current_time: u64,
     pub max_padding_frac: f64,
+    pub max_blocking_frac: f64,
+    pub framework_start: u64,
     pub normal_sent_packets: u64,
     pub padding_sent_packets: u64,
-    pub max_blocking_frac: f64,
     pub blocking_duration: u64,
     pub blocking_started: u64,
     pub blocking_active: u64,
-    pub framework_start: u64,
 }
 
 // A machine after a step, and whether its state changed (framework.rs: StateChange).
@@ -84,18 +112,32 @@ pub enum Stepped {
     Done(Step),
 }
 
-// A counter after its update: its value, whether it has reported zero in this call, whether it does so now, and where the value
-// tape goes on.
+// A counter after its update: its value, where the tapes go on, whether it has reported zero in this call, and whether it does
+// so now.
 pub struct Counter {
     pub value: u64,
+    pub at: Place,
     pub zeroed: bool,
     pub reports: bool,
-    pub at: usize,
 }
 
 pub enum Counted {
-    Uncounted(u64),
+    Refused(u64),
     NewValue(Counter),
+}
+
+// A row's counters after the update of some of them: their values, where the tapes go on, which have reported zero in this call,
+// and whether one does so now.
+pub struct Tally {
+    pub counters: Counters,
+    pub place: Place,
+    pub zeroed: Zeroed,
+    pub reports: bool,
+}
+
+pub enum Tallied {
+    Refused(u64),
+    At(Tally),
 }
 
 // A machine after its counter update, and what update_counter answers: whether an action may be scheduled, and whether the state
@@ -109,29 +151,29 @@ pub struct Update {
 }
 
 pub enum Updated {
-    Halted(u64),
-    Counters(Update),
+    Refused(u64),
+    Ready(Update),
 }
 
-// A machine in a state, its limit drawn where the state is another one, and where the value tape goes on.
+// A machine in a state, its limit drawn where the state is another one, and where the tapes go on.
 pub enum Entered {
-    Barred(u64),
-    In(MachineRuntime, usize),
+    Refused(u64),
+    In(MachineRuntime, Place),
 }
 
-// An action to return, and where the value tape goes on.
+// An action to return, and where the tapes go on.
 pub enum Scheduled {
-    Unset(u64),
-    Set(TriggerAction, usize),
+    Refused(u64),
+    Set(TriggerAction, Place),
 }
 
 // Whether a run went to its end.
 pub enum Verdict {
     Complete,
-    Stopped(u64),
+    Refused(u64),
 }
 
-// A run of events or signals over all machines; after a stop, all as it was when the run began.
+// A run of events or signals over all machines; after a refusal, all as it was when the run began.
 pub struct Ran {
     pub verdict: Verdict,
     pub framework: Framework,

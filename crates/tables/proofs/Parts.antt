@@ -5,7 +5,7 @@ use mathlib.Core.List.{List}
 use native.Mathlib.Omega.{arith}
 use lib.ListN.{length, take, drop, length-take, length-drop}
 use borrow.Author.Tests.{ne-eqb, le-ltb, le-leb, lt-leb}
-use Rattle.machine.specs.Constants.{stateMax}
+use Rattle.machine.specs.Constants.{stateMax, stateWords}
 use Rattle.machine.specs.State.{rowsOf}
 use Rattle.tables.specs.Machine.{eachState, statesRefusal}
 
@@ -29,11 +29,11 @@ module _ (w : ℕ) (table : List ℕ) (first n : ℕ) where
 
 -- ---- a machine's states
 module _ (states ts : List ℕ) (first n : ℕ) (some : n ≡ 0 → ⊥) (few : n ≤ stateMax) where
-  pub beyond : length states < (first + n) * 58 → 7 ≡ statesRefusal states ts first n
+  pub beyond : length states < (first + n) * stateWords → 7 ≡ statesRefusal states ts first n
   unfolding statesRefusal
   beyond h = rw (ne-eqb n 0 some, le-ltb stateMax n few, lt-leb _ _ h)
 
-  pub within : (first + n) * 58 ≤ length states →
-      eachState ts n (take (first * 58 + n * 58 - first * 58) (drop (first * 58) states)) ≡ statesRefusal states ts first n
+  pub within : (first + n) * stateWords ≤ length states →
+      eachState ts n (take (first * stateWords + n * stateWords - first * stateWords) (drop (first * stateWords) states)) ≡ statesRefusal states ts first n
   unfolding statesRefusal
-  within h = rw (ne-eqb n 0 some, le-ltb stateMax n few, le-leb _ _ h, more-rows 58 states first n)
+  within h = rw (ne-eqb n 0 some, le-ltb stateMax n few, le-leb _ _ h, more-rows stateWords states first n)

@@ -1,5 +1,5 @@
 -- state.rs, `State::validate`, with the tests that the tables' words ask beside the Rust's: refusals 8 to 15.
--- `n` is the number of the machine's states, `row` a state's 58 words, `ts` the transition table.
+-- `n` is the number of the machine's states, `row` a state's words, `ts` the transition table.
 use Prim.Native.Nat.{ℕ, zero, suc, _+_, _-_, _*_}
 use mathlib.Core.List.{List}
 use mathlib.Core.Bool.{Bool, true, false, cond, not, _||_}

@@ -12,10 +12,10 @@ ghost use Rattle.machine.specs.Constants.{machineWords};
 ghost use Rattle.tables.specs.Framework.{isFraction, fractionsRefusal};
 ghost use Rattle.tables.specs.Machine.{machinesRefusal, wholeTables, tablesRefusal};
 
-pub mod marks; // the targets met in a long row
-pub mod row; // state.rs: a row of transitions
-pub mod state; // state.rs: a state
-pub mod machine_row; // machine.rs
+mod marks; // the targets met in a long row
+mod row; // state.rs: a row of transitions
+mod state; // state.rs: a state
+mod machine_row; // machine.rs
 
 // 0.0 to 1.0; a NaN is not.
 fn is_fraction(x: f64) -> bool

@@ -1,4 +1,4 @@
-// state.rs, `State::validate`: refusals 8 to 15 of a state, whose 58 words are `row`.
+// state.rs, `State::validate`: refusals 8 to 15 of a state, whose words are `row`.
 use machine::constants::ABSENT;
 use machine::constants::ACTION;
 use machine::constants::BLOCK_OUTGOING;

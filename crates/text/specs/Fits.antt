@@ -121,8 +121,7 @@ reads-back (suc w) n h f =
     ∙ ap (λ (m : ℕ). readOn m (48 + n % 10)) (read-rests w (n / 10) (omega (arith, pow-suc 10 w)))
     ∙ digit n
 
--- What the printed run prints fits: calls in 6, refusals and action counts, machines, kinds, flags and timers in 4,
--- timeouts and durations in 12.
+-- The bounds of what the printed run prints (crate run, specs/Fits.antt).
 pub call-fits : {n : ℕ} → n ≤ 8192 → n < 10 ^ 6
 call-fits h = omega (arith, lit< {m = 8192} {n = 10 ^ 6} tt)
 

@@ -21,7 +21,7 @@ fn mark(rest: u64) -> u8
 
 // Puts n at the right end of the first width bytes of out, with spaces in front. A number of more
 // than width digits gets its last ones.
-pub fn put_number(out: &mut [u8], width: usize, n: u64)
+fn put_number(out: &mut [u8], width: usize, n: u64)
     requires { ⌜ (0 < width) × (width ≤ length (now out)) ⌝ }
     ensures { λ _. ⌜ now (out .exit) ≡ column width n (now (out .entry)) ⌝ }
 {
@@ -55,7 +55,7 @@ fn put_two(line: &mut [u8], at: usize, width: usize, row: &[u64], k: usize)
 }
 
 // A call's line: call, refusal and actions in 6, 4 and 4 columns, and a line feed.
-pub fn call_line(line: &mut [u8], call: u64, refusal: u64, actions: u64)
+fn call_line(line: &mut [u8], call: u64, refusal: u64, actions: u64)
     requires { ⌜ 15 ≤ length (now line) ⌝ }
     ensures { λ _. ⌜ now (line .exit)
         ≡ callLine call refusal actions ++ drop 15 (now (line .entry)) ⌝ }
@@ -67,7 +67,7 @@ pub fn call_line(line: &mut [u8], call: u64, refusal: u64, actions: u64)
 }
 
 // A row's line: its six words in 4, 4, 4, 4, 12 and 12 columns, and a line feed.
-pub fn row_line(line: &mut [u8], row: &[u64])
+fn row_line(line: &mut [u8], row: &[u64])
     requires { ⌜ (41 ≤ length (now line)) × (rowWords ≤ length (now row)) ⌝ }
     ensures { λ _. ⌜ now (line .exit)
         ≡ rowLine (now (row .entry)) ++ drop 41 (now (line .entry)) ⌝ }

@@ -1,6 +1,3 @@
--- What the contracts of `transition` cite beside the definitions of `steps`, and what its callers
--- may use.
-pub mod Both
-pub mod Choice
-pub mod Settle
+-- What the contracts of `transition` cite beside the definitions of `steps`, and what its callers may use.
 pub mod Transition
+pub mod Short

@@ -5,14 +5,17 @@ use borrow.Author.Needs.{needs}
 use Prim.Native.Nat.{_+_, _*_, _-_, _≤_, _<_}
 use mathlib.Core.Path.{_≡_, refl, sym, ap, _∙_}
 use native.Mathlib.Omega.{arith}
+use Rattle.machine.specs.Constants.{counterNum}
+use Rattle.machine.specs.Event.{timerEndKind}
+use Rattle.machine.specs.Source.{tapes}
 use Rattle.steps.specs.Events.{each, eventTurn}
 use Rattle.steps.specs.Framework.{begin}
 use Rattle.steps.specs.declared.Ran.{Ran}
-use Rattle.transition.specs.Settle.Laws.{short-way}
-use Rattle.transition.specs.Transition.{at-most-two}
-use Rattle.events.specs.Run.{tables, tapes, ranFrom}
+use Rattle.transition.specs.Short.{short-way}
+use Rattle.transition.specs.Transition.{at-most}
+use Rattle.events.specs.Run.{tables, ranFrom}
 use Rattle.events.proofs.Counts.{kind-fits, event-small}
-use Rattle.events.proofs.Turns.{Ahead, all-ahead, ahead-missing, ahead-counts, ahead-refused, ahead-settled, ahead-done, ahead-ends, ahead-event}
+use Rattle.events.proofs.Turns.{Ahead, all-ahead, ahead-missing, ahead-counts, ahead-refused, ahead-done, ahead-ends, ahead-event}
 use Rattle.events.proofs.run_events.Statement.{statement}
 use Rattle.events.proofs.run_events.Tie as tie
 
@@ -20,7 +23,7 @@ abbrev Inv-loop : tie.InvT-loop
 Inv-loop fw machines states transitions time events chances values f₀ actions₀ s₀ n i₀ m₀ end₀ kind₀ machine₀ blocked₀ f actions s i m end kind machine blocked =
     let T = tables machines states transitions in
     let D = tapes chances values in
-    (i ≤ n) × (kind ≤ 9) × (m < end → end ≤ 16) × (f .machines ≡ fw .machines) ×
+    (i ≤ n) × (kind ≤ timerEndKind) × (m < end → end ≤ 16) × (f .machines ≡ fw .machines) ×
     Ahead (each (eventTurn T D events) n 0 (begin fw time)) T D events n kind machine blocked m end i f actions s
 
 abbrev μ-loop : tie.MeasureT-loop
@@ -74,7 +77,7 @@ event-of-requires c κs = search needs
 choose-requires : tie.Need-choose-requires Inv-loop μ-loop
 choose-requires c κs =
     let event-of = c .event-of in
-    let loop = c .before .before .before .before .before .before .loop in
+    let loop = c .before .before .before .before .before .before .before .loop in
     rw (event-of .ensures) (event-small _ (loop .inv .1))
 
 enum-known-choice : tie.Need-enum-known-choice Inv-loop μ-loop
@@ -89,11 +92,10 @@ returns c =
     let choice = c .before .before .choice in
     let choose = c .before .before .before .before .choose in
     let event-of = c .before .before .before .before .before .event-of in
-    let c₁ = c .before .before .before .before .before .before .before .before in
-    let states-of = c₁ .states-of in
-    let if1 = c₁ .before .before .if1 in
-    let loop = c₁ .before .before .before .loop in (
-      stopped .ensures ∙ sym (ap (ranFrom _) (ahead-missing (loop .inv .4) (if1 .taken) (sym (rw (states-of .ensures, event-of .ensures) at (choose .ensures)) ∙ choice .given .1))),
+    let states-of = c .before .before .before .before .before .before .before .before .before .states-of in
+    let if1 = c .before .before .before .before .before .before .before .before .before .before .before .if1 in
+    let loop = c .before .before .before .before .before .before .before .before .before .before .before .before .loop in (
+      stopped .ensures ∙ sym (ap (ranFrom _) (ahead-missing (loop .inv .4) (λ _ _ _. refl) (if1 .taken) (sym (rw (states-of .ensures, event-of .ensures) at (choose .ensures)) ∙ choice .given .1))),
       ap (λ (r : Ran). r .framework .machines) (stopped .ensures),
     )
 
@@ -105,29 +107,25 @@ only-counts-requires c κs = search needs
 
 mul-counted : tie.Need-mul-counted Inv-loop μ-loop
 mul-counted c =
-    let c₁ = c .before .before .before .before .before .before .before .before in
-    let if1 = c₁ .before .before .before .if1 in
-    let loop = c₁ .before .before .before .before .loop in
+    let if1 = c .before .before .before .before .before .before .before .before .before .before .before .before .if1 in
+    let loop = c .before .before .before .before .before .before .before .before .before .before .before .before .before .loop in
     omega (arith, if1 .taken, loop .inv .2 (if1 .taken))
 
 element-set-from-counted : tie.Need-element-set-from-counted Inv-loop μ-loop
 element-set-from-counted c =
-    let c₁ = c .before .before .before .before .before .before .before .before in
-    let if1 = c₁ .before .before .before .if1 in
-    let loop = c₁ .before .before .before .before .loop in
+    let if1 = c .before .before .before .before .before .before .before .before .before .before .before .before .if1 in
+    let loop = c .before .before .before .before .before .before .before .before .before .before .before .before .before .loop in
     omega (arith, if1 .taken, loop .inv .2 (if1 .taken))
 
 add-m : tie.Need-add-m Inv-loop μ-loop
 add-m c =
-    let c₁ = c .before .before .before .before .before .before .before .before in
-    let if1 = c₁ .before .before .before .if1 in
-    let loop = c₁ .before .before .before .before .loop in
+    let if1 = c .before .before .before .before .before .before .before .before .before .before .before .before .if1 in
+    let loop = c .before .before .before .before .before .before .before .before .before .before .before .before .before .loop in
     omega (arith, if1 .taken, loop .inv .2 (if1 .taken))
 
 loop-less : tie.Need-loop-less Inv-loop μ-loop
 loop-less c =
-    let c₁ = c .before .before .before .before .before .before .before .before in
-    let if1 = c₁ .before .before .before .if1 in
+    let if1 = c .before .before .before .before .before .before .before .before .before .before .before .before .if1 in
     omega (arith, if1 .taken)
 
 loop-again : tie.Need-loop-again Inv-loop μ-loop
@@ -137,43 +135,39 @@ loop-again c =
     let choice2 = c .before .before .before .choice2 in
     let choose = c .before .before .before .before .before .choose in
     let event-of = c .before .before .before .before .before .before .event-of in
-    let counted-by = c .before .before .before .before .before .before .before .counted-by in
-    let c₁ = c .before .before .before .before .before .before .before .before in
-    let states-of = c₁ .before .states-of in
-    let limit-falls = c₁ .before .before .limit-falls in
-    let if1 = c₁ .before .before .before .if1 in
-    let loop = c₁ .before .before .before .before .loop in (
+    let counted-by = c .before .before .before .before .before .before .before .before .counted-by in
+    let states-of = c .before .before .before .before .before .before .before .before .before .before .states-of in
+    let limit-falls = c .before .before .before .before .before .before .before .before .before .before .before .limit-falls in
+    let if1 = c .before .before .before .before .before .before .before .before .before .before .before .before .if1 in
+    let loop = c .before .before .before .before .before .before .before .before .before .before .before .before .before .loop in (
       loop .inv .0,
       loop .inv .1,
       λ h. loop .inv .2 (if1 .taken),
       loop .inv .3,
-      rw (counted-by .ensures) (ahead-counts (loop .inv .4) (if1 .taken) (sym (rw (states-of .ensures, event-of .ensures) at (choose .ensures)) ∙ choice2 .given .1)
+      rw (counted-by .ensures) (ahead-counts (loop .inv .4) (λ _ _ _. refl) (if1 .taken) (sym (rw (states-of .ensures, event-of .ensures) at (choose .ensures)) ∙ choice2 .given .1)
           (sym (rw (limit-falls .ensures) at (only-counts .ensures)) ∙ if2 .taken)),
     )
 
-context-from-requires : tie.Need-context-from-requires Inv-loop μ-loop
-context-from-requires c κs =
-    let c₁ = c .before .before .before .before .before .before .before .before in
-    let if1 = c₁ .before .before .before .if1 in
-    let loop = c₁ .before .before .before .before .loop in
+context-of-requires : tie.Need-context-of-requires Inv-loop μ-loop
+context-of-requires c κs =
+    let if1 = c .before .before .before .before .before .before .before .before .before .before .before .before .before .before .if1 in
+    let loop = c .before .before .before .before .before .before .before .before .before .before .before .before .before .before .before .loop in
     omega (arith, if1 .taken, loop .inv .2 (if1 .taken))
 
 mul-p : tie.Need-mul-p Inv-loop μ-loop
 mul-p c =
-    let c₁ = c .before .before .before .before .before .before .before .before in
-    let if1 = c₁ .before .before .before .before .if1 in
-    let loop = c₁ .before .before .before .before .before .loop in
+    let if1 = c .before .before .before .before .before .before .before .before .before .before .before .before .before .before .before .if1 in
+    let loop = c .before .before .before .before .before .before .before .before .before .before .before .before .before .before .before .before .loop in
     omega (arith, if1 .taken, loop .inv .2 (if1 .taken))
 
 array-copy-out-p : tie.Need-array-copy-out-p Inv-loop μ-loop
 array-copy-out-p c =
-    let c₁ = c .before .before .before .before .before .before .before .before in
-    let if1 = c₁ .before .before .before .before .if1 in
-    let loop = c₁ .before .before .before .before .before .loop in
+    let if1 = c .before .before .before .before .before .before .before .before .before .before .before .before .before .before .before .if1 in
+    let loop = c .before .before .before .before .before .before .before .before .before .before .before .before .before .before .before .before .loop in
     omega (arith, if1 .taken, loop .inv .2 (if1 .taken))
 
-settle-requires : tie.Need-settle-requires Inv-loop μ-loop
-settle-requires c κs = search needs
+short-way-requires : tie.Need-short-way-requires Inv-loop μ-loop
+short-way-requires c κs = search needs
 
 enum-told : tie.Need-enum-told Inv-loop μ-loop
 enum-told c = search needs
@@ -182,93 +176,47 @@ enum-known-short : tie.Need-enum-known-short Inv-loop μ-loop
 enum-known-short c = search needs
 
 mul-actions : tie.Need-mul-actions Inv-loop μ-loop
-mul-actions c =
-    let c₁ = c .before .before .before .before .before .before .before .before in
-    let c₂ = c₁ .before .before .before .before .before .before .before .before in
-    let if1 = c₂ .before .before .before .if1 in
-    let loop = c₂ .before .before .before .before .loop in
-    omega (arith, if1 .taken, loop .inv .2 (if1 .taken))
+mul-actions c = omega (arith, c .before .before .before .before .before .before .before .before .before .before .before .before .before .before .before .before .before .before .before .before .before .before .if1 .taken, c .before .before .before .before .before .before .before .before .before .before .before .before .before .before .before .before .before .before .before .before .before .before .before .loop .inv .2 (c .before .before .before .before .before .before .before .before .before .before .before .before .before .before .before .before .before .before .before .before .before .before .if1 .taken))
 
 array-set-from-actions : tie.Need-array-set-from-actions Inv-loop μ-loop
-array-set-from-actions c =
-    let c₁ = c .before .before .before .before .before .before .before .before in
-    let c₂ = c₁ .before .before .before .before .before .before .before .before in
-    let if1 = c₂ .before .before .before .if1 in
-    let loop = c₂ .before .before .before .before .loop in
-    omega (arith, if1 .taken, loop .inv .2 (if1 .taken))
+array-set-from-actions c = omega (arith, c .before .before .before .before .before .before .before .before .before .before .before .before .before .before .before .before .before .before .before .before .before .before .if1 .taken, c .before .before .before .before .before .before .before .before .before .before .before .before .before .before .before .before .before .before .before .before .before .before .before .loop .inv .2 (c .before .before .before .before .before .before .before .before .before .before .before .before .before .before .before .before .before .before .before .before .before .before .if1 .taken))
 
 mul-r2 : tie.Need-mul-r2 Inv-loop μ-loop
-mul-r2 c =
-    let c₁ = c .before .before .before .before .before .before .before .before in
-    let c₂ = c₁ .before .before .before .before .before .before .before .before in
-    let if1 = c₂ .before .before .before .before .if1 in
-    let loop = c₂ .before .before .before .before .before .loop in
-    omega (arith, if1 .taken, loop .inv .2 (if1 .taken))
+mul-r2 c = omega (arith, c .before .before .before .before .before .before .before .before .before .before .before .before .before .before .before .before .before .before .before .before .before .before .before .if1 .taken, c .before .before .before .before .before .before .before .before .before .before .before .before .before .before .before .before .before .before .before .before .before .before .before .before .loop .inv .2 (c .before .before .before .before .before .before .before .before .before .before .before .before .before .before .before .before .before .before .before .before .before .before .before .if1 .taken))
 
 element-set-from-r2 : tie.Need-element-set-from-r2 Inv-loop μ-loop
-element-set-from-r2 c =
-    let c₁ = c .before .before .before .before .before .before .before .before in
-    let c₂ = c₁ .before .before .before .before .before .before .before .before in
-    let if1 = c₂ .before .before .before .before .if1 in
-    let loop = c₂ .before .before .before .before .before .loop in
-    omega (arith, if1 .taken, loop .inv .2 (if1 .taken))
+element-set-from-r2 c = omega (arith, c .before .before .before .before .before .before .before .before .before .before .before .before .before .before .before .before .before .before .before .before .before .before .before .if1 .taken, c .before .before .before .before .before .before .before .before .before .before .before .before .before .before .before .before .before .before .before .before .before .before .before .before .loop .inv .2 (c .before .before .before .before .before .before .before .before .before .before .before .before .before .before .before .before .before .before .before .before .before .before .before .if1 .taken))
 
 add-m-2 : tie.Need-add-m-2 Inv-loop μ-loop
-add-m-2 c =
-    let c₁ = c .before .before .before .before .before .before .before .before in
-    let c₂ = c₁ .before .before .before .before .before .before .before .before in
-    let if1 = c₂ .before .before .before .before .if1 in
-    let loop = c₂ .before .before .before .before .before .loop in
-    omega (arith, if1 .taken, loop .inv .2 (if1 .taken))
+add-m-2 c = omega (arith, c .before .before .before .before .before .before .before .before .before .before .before .before .before .before .before .before .before .before .before .before .before .before .before .if1 .taken, c .before .before .before .before .before .before .before .before .before .before .before .before .before .before .before .before .before .before .before .before .before .before .before .before .loop .inv .2 (c .before .before .before .before .before .before .before .before .before .before .before .before .before .before .before .before .before .before .before .before .before .before .before .if1 .taken))
 
 loop-less-2 : tie.Need-loop-less-2 Inv-loop μ-loop
-loop-less-2 c =
-    let c₁ = c .before .before .before .before .before .before .before .before in
-    let c₂ = c₁ .before .before .before .before .before .before .before .before in
-    let if1 = c₂ .before .before .before .before .if1 in
-    omega (arith, if1 .taken)
+loop-less-2 c = omega (arith, c .before .before .before .before .before .before .before .before .before .before .before .before .before .before .before .before .before .before .before .before .before .before .before .if1 .taken)
 
 loop-again-2 : tie.Need-loop-again-2 Inv-loop μ-loop
-loop-again-2 c =
-    let short = c .before .before .before .before .short in
-    let settle = c .before .before .before .before .before .before .settle in
-    let c₁ = c .before .before .before .before .before .before .before .before in
-    let context-from = c₁ .context-from in
-    let choice2 = c₁ .before .before .before .before .choice2 in
-    let choose = c₁ .before .before .before .before .before .before .choose in
-    let event-of = c₁ .before .before .before .before .before .before .before .event-of in
-    let c₂ = c₁ .before .before .before .before .before .before .before .before in
-    let counted-by = c₂ .counted-by in
-    let states-of = c₂ .before .before .states-of in
-    let limit-falls = c₂ .before .before .before .limit-falls in
-    let if1 = c₂ .before .before .before .before .if1 in
-    let loop = c₂ .before .before .before .before .before .loop in (
-      loop .inv .0,
-      loop .inv .1,
-      λ h. loop .inv .2 (if1 .taken),
-      loop .inv .3,
-      ahead-settled (loop .inv .4) (if1 .taken) (sym (rw (states-of .ensures, event-of .ensures) at (choose .ensures)) ∙ choice2 .given .1)
-          (short-way _ _ _ _ _ _ _ _ _
-          (sym (rw (states-of .ensures, context-from .ensures, counted-by .ensures, limit-falls .ensures) at (settle .ensures)) ∙ short .given .1)),
-    )
+loop-again-2 c = (
+  c .before .before .before .before .before .before .before .before .before .before .before .before .before .before .before .before .before .before .before .before .before .before .before .before .loop .inv .0,
+  c .before .before .before .before .before .before .before .before .before .before .before .before .before .before .before .before .before .before .before .before .before .before .before .before .loop .inv .1,
+  λ h. c .before .before .before .before .before .before .before .before .before .before .before .before .before .before .before .before .before .before .before .before .before .before .before .before .loop .inv .2 (c .before .before .before .before .before .before .before .before .before .before .before .before .before .before .before .before .before .before .before .before .before .before .before .if1 .taken),
+  c .before .before .before .before .before .before .before .before .before .before .before .before .before .before .before .before .before .before .before .before .before .before .before .before .loop .inv .3,
+  ahead-done (c .before .before .before .before .before .before .before .before .before .before .before .before .before .before .before .before .before .before .before .before .before .before .before .before .loop .inv .4) (λ _ _ _. refl) (c .before .before .before .before .before .before .before .before .before .before .before .before .before .before .before .before .before .before .before .before .before .before .before .if1 .taken) (sym (rw (c .before .before .before .before .before .before .before .before .before .before .before .before .before .before .before .before .before .before .before .before .before .states-of .ensures, c .before .before .before .before .before .before .before .before .before .before .before .before .before .before .before .before .before .event-of .ensures) at (c .before .before .before .before .before .before .before .before .before .before .before .before .before .before .before .before .choose .ensures)) ∙ c .before .before .before .before .before .before .before .before .before .before .before .before .before .before .choice2 .given .1)
+      (short-way counterNum _ _ _ _ _ _ _
+      (sym (rw (c .before .before .before .before .before .before .before .before .before .before .before .before .before .before .before .before .before .before .before .before .before .states-of .ensures, c .before .before .before .before .before .before .before .before .context-of .ensures, c .before .before .before .before .before .before .before .before .before .before .before .before .before .before .before .before .before .before .before .counted-by .ensures, c .before .before .before .before .before .before .before .before .before .before .before .before .before .before .before .before .before .before .before .before .before .before .limit-falls .ensures) at (c .before .before .before .before .before .before .short-way .ensures)) ∙ c .before .before .before .before .short .given .1)),
+)
 
 going-requires : tie.Need-going-requires Inv-loop μ-loop
 going-requires c κs =
-    let context-from = c .before .before .before .before .context-from in
-    let c₁ = c .before .before .before .before .before .before .before .before in
-    let c₂ = c₁ .before .before .before .before .before .before .before .before in
-    let if1 = c₂ .if1 in
-    let loop = c₂ .before .loop in
-    rw (context-from .ensures) (omega (arith, if1 .taken, loop .inv .2 (if1 .taken)))
+    let context-of = c .before .before .before .before .context-of in
+    let if1 = c .before .before .before .before .before .before .before .before .before .before .before .before .before .before .before .before .before .before .before .if1 in
+    let loop = c .before .before .before .before .before .before .before .before .before .before .before .before .before .before .before .before .before .before .before .before .loop in
+    rw (context-of .ensures) (omega (arith, if1 .taken, loop .inv .2 (if1 .taken)))
 
-after-own-requires : tie.Need-after-own-requires Inv-loop μ-loop
-after-own-requires c κs =
-    let context-from = c .before .before .before .before .before .context-from in
-    let c₁ = c .before .before .before .before .before .before .before .before in
-    let c₂ = c₁ .before .before .before .before .before .before .before .before in
-    let if1 = c₂ .before .if1 in
-    let loop = c₂ .before .before .loop in
-    rw (context-from .ensures) (omega (arith, if1 .taken, loop .inv .2 (if1 .taken)))
+after-transition-requires : tie.Need-after-transition-requires Inv-loop μ-loop
+after-transition-requires c κs =
+    let context-of = c .before .before .before .before .before .context-of in
+    let if1 = c .before .before .before .before .before .before .before .before .before .before .before .before .before .before .before .before .before .before .before .before .if1 in
+    let loop = c .before .before .before .before .before .before .before .before .before .before .before .before .before .before .before .before .before .before .before .before .before .loop in
+    rw (context-of .ensures) (omega (arith, if1 .taken, loop .inv .2 (if1 .taken)))
 
 enum-known-x : tie.Need-enum-known-x Inv-loop μ-loop
 enum-known-x c = search needs
@@ -280,21 +228,19 @@ returns-2 : tie.Need-returns-2 Inv-loop μ-loop
 returns-2 c =
     let stopped2 = c .stopped2 in
     let x = c .before .before .x in
-    let after-own = c .before .before .before .before .after-own in
+    let after-transition = c .before .before .before .before .after-transition in
     let going = c .before .before .before .before .before .going in
-    let c₁ = c .before .before .before .before .before .before .before .before in
-    let context-from = c₁ .before .before .context-from in
-    let choice2 = c₁ .before .before .before .before .before .before .choice2 in
-    let c₂ = c₁ .before .before .before .before .before .before .before .before in
-    let choose = c₂ .choose in
-    let event-of = c₂ .before .event-of in
-    let counted-by = c₂ .before .before .counted-by in
-    let states-of = c₂ .before .before .before .before .states-of in
-    let limit-falls = c₂ .before .before .before .before .before .limit-falls in
-    let if1 = c₂ .before .before .before .before .before .before .if1 in
-    let loop = c₂ .before .before .before .before .before .before .before .loop in (
-      stopped2 .ensures ∙ sym (ap (ranFrom _) (ahead-refused (loop .inv .4) (if1 .taken) (sym (rw (states-of .ensures, event-of .ensures) at (choose .ensures)) ∙ choice2 .given .1)
-          (sym (rw (limit-falls .ensures, going .ensures 2 (at-most-two (loop .s)), states-of .ensures, context-from .ensures, counted-by .ensures) at (after-own .ensures)) ∙ x .given .1))),
+    let context-of = c .before .before .before .before .before .before .before .before .before .before .context-of in
+    let choice2 = c .before .before .before .before .before .before .before .before .before .before .before .before .before .before .before .before .choice2 in
+    let choose = c .before .before .before .before .before .before .before .before .before .before .before .before .before .before .before .before .before .before .choose in
+    let event-of = c .before .before .before .before .before .before .before .before .before .before .before .before .before .before .before .before .before .before .before .event-of in
+    let counted-by = c .before .before .before .before .before .before .before .before .before .before .before .before .before .before .before .before .before .before .before .before .before .counted-by in
+    let states-of = c .before .before .before .before .before .before .before .before .before .before .before .before .before .before .before .before .before .before .before .before .before .before .before .states-of in
+    let limit-falls = c .before .before .before .before .before .before .before .before .before .before .before .before .before .before .before .before .before .before .before .before .before .before .before .before .limit-falls in
+    let if1 = c .before .before .before .before .before .before .before .before .before .before .before .before .before .before .before .before .before .before .before .before .before .before .before .before .before .if1 in
+    let loop = c .before .before .before .before .before .before .before .before .before .before .before .before .before .before .before .before .before .before .before .before .before .before .before .before .before .before .loop in (
+      stopped2 .ensures ∙ sym (ap (ranFrom _) (ahead-refused (loop .inv .4) (λ _ _ _. refl) (if1 .taken) (sym (rw (states-of .ensures, event-of .ensures) at (choose .ensures)) ∙ choice2 .given .1)
+          (sym (rw (limit-falls .ensures, going .ensures counterNum (at-most (loop .s)), states-of .ensures, context-of .ensures, counted-by .ensures) at (after-transition .ensures)) ∙ x .given .1))),
       ap (λ (r : Ran). r .framework .machines) (stopped2 .ensures),
     )
 
@@ -303,78 +249,59 @@ enum-known-x-2 c = search needs
 
 mul-r2-2 : tie.Need-mul-r2-2 Inv-loop μ-loop
 mul-r2-2 c =
-    let c₁ = c .before .before .before .before .before .before .before .before in
-    let c₂ = c₁ .before .before .before .before .before .before .before .before in
-    let if1 = c₂ .before .before .before .before .before .before .if1 in
-    let loop = c₂ .before .before .before .before .before .before .before .loop in
+    let if1 = c .before .before .before .before .before .before .before .before .before .before .before .before .before .before .before .before .before .before .before .before .before .before .before .before .before .if1 in
+    let loop = c .before .before .before .before .before .before .before .before .before .before .before .before .before .before .before .before .before .before .before .before .before .before .before .before .before .before .loop in
     omega (arith, if1 .taken, loop .inv .2 (if1 .taken))
 
 element-set-from-r2-2 : tie.Need-element-set-from-r2-2 Inv-loop μ-loop
 element-set-from-r2-2 c =
-    let c₁ = c .before .before .before .before .before .before .before .before in
-    let c₂ = c₁ .before .before .before .before .before .before .before .before in
-    let if1 = c₂ .before .before .before .before .before .before .if1 in
-    let loop = c₂ .before .before .before .before .before .before .before .loop in
+    let if1 = c .before .before .before .before .before .before .before .before .before .before .before .before .before .before .before .before .before .before .before .before .before .before .before .before .before .if1 in
+    let loop = c .before .before .before .before .before .before .before .before .before .before .before .before .before .before .before .before .before .before .before .before .before .before .before .before .before .before .loop in
     omega (arith, if1 .taken, loop .inv .2 (if1 .taken))
 
 mul-actions-2 : tie.Need-mul-actions-2 Inv-loop μ-loop
 mul-actions-2 c =
-    let c₁ = c .before .before .before .before .before .before .before .before in
-    let c₂ = c₁ .before .before .before .before .before .before .before .before in
-    let if1 = c₂ .before .before .before .before .before .before .before .if1 in
-    let c₃ = c₂ .before .before .before .before .before .before .before .before in
-    let loop = c₃ .loop in
+    let if1 = c .before .before .before .before .before .before .before .before .before .before .before .before .before .before .before .before .before .before .before .before .before .before .before .before .before .before .if1 in
+    let loop = c .before .before .before .before .before .before .before .before .before .before .before .before .before .before .before .before .before .before .before .before .before .before .before .before .before .before .before .loop in
     omega (arith, if1 .taken, loop .inv .2 (if1 .taken))
 
 array-set-from-actions-2 : tie.Need-array-set-from-actions-2 Inv-loop μ-loop
 array-set-from-actions-2 c =
-    let c₁ = c .before .before .before .before .before .before .before .before in
-    let c₂ = c₁ .before .before .before .before .before .before .before .before in
-    let if1 = c₂ .before .before .before .before .before .before .before .if1 in
-    let c₃ = c₂ .before .before .before .before .before .before .before .before in
-    let loop = c₃ .loop in
+    let if1 = c .before .before .before .before .before .before .before .before .before .before .before .before .before .before .before .before .before .before .before .before .before .before .before .before .before .before .if1 in
+    let loop = c .before .before .before .before .before .before .before .before .before .before .before .before .before .before .before .before .before .before .before .before .before .before .before .before .before .before .before .loop in
     omega (arith, if1 .taken, loop .inv .2 (if1 .taken))
 
 add-m-3 : tie.Need-add-m-3 Inv-loop μ-loop
 add-m-3 c =
-    let c₁ = c .before .before .before .before .before .before .before .before in
-    let c₂ = c₁ .before .before .before .before .before .before .before .before in
-    let c₃ = c₂ .before .before .before .before .before .before .before .before in
-    let if1 = c₃ .if1 in
-    let loop = c₃ .before .loop in
+    let if1 = c .before .before .before .before .before .before .before .before .before .before .before .before .before .before .before .before .before .before .before .before .before .before .before .before .before .before .before .if1 in
+    let loop = c .before .before .before .before .before .before .before .before .before .before .before .before .before .before .before .before .before .before .before .before .before .before .before .before .before .before .before .before .loop in
     omega (arith, if1 .taken, loop .inv .2 (if1 .taken))
 
 loop-less-3 : tie.Need-loop-less-3 Inv-loop μ-loop
 loop-less-3 c =
-    let c₁ = c .before .before .before .before .before .before .before .before in
-    let c₂ = c₁ .before .before .before .before .before .before .before .before in
-    let c₃ = c₂ .before .before .before .before .before .before .before .before in
-    let if1 = c₃ .if1 in
+    let if1 = c .before .before .before .before .before .before .before .before .before .before .before .before .before .before .before .before .before .before .before .before .before .before .before .before .before .before .before .if1 in
     omega (arith, if1 .taken)
 
 loop-again-3 : tie.Need-loop-again-3 Inv-loop μ-loop
 loop-again-3 c =
     let x2 = c .before .before .before .before .x2 in
-    let after-own = c .before .before .before .before .before .before .after-own in
+    let after-transition = c .before .before .before .before .before .before .after-transition in
     let going = c .before .before .before .before .before .before .before .going in
-    let c₁ = c .before .before .before .before .before .before .before .before in
-    let context-from = c₁ .before .before .before .before .context-from in
-    let c₂ = c₁ .before .before .before .before .before .before .before .before in
-    let choice2 = c₂ .choice2 in
-    let choose = c₂ .before .before .choose in
-    let event-of = c₂ .before .before .before .event-of in
-    let counted-by = c₂ .before .before .before .before .counted-by in
-    let states-of = c₂ .before .before .before .before .before .before .states-of in
-    let limit-falls = c₂ .before .before .before .before .before .before .before .limit-falls in
-    let c₃ = c₂ .before .before .before .before .before .before .before .before in
-    let if1 = c₃ .if1 in
-    let loop = c₃ .before .loop in (
+    let context-of = c .before .before .before .before .before .before .before .before .before .before .before .before .context-of in
+    let choice2 = c .before .before .before .before .before .before .before .before .before .before .before .before .before .before .before .before .before .before .choice2 in
+    let choose = c .before .before .before .before .before .before .before .before .before .before .before .before .before .before .before .before .before .before .before .before .choose in
+    let event-of = c .before .before .before .before .before .before .before .before .before .before .before .before .before .before .before .before .before .before .before .before .before .event-of in
+    let counted-by = c .before .before .before .before .before .before .before .before .before .before .before .before .before .before .before .before .before .before .before .before .before .before .before .counted-by in
+    let states-of = c .before .before .before .before .before .before .before .before .before .before .before .before .before .before .before .before .before .before .before .before .before .before .before .before .before .states-of in
+    let limit-falls = c .before .before .before .before .before .before .before .before .before .before .before .before .before .before .before .before .before .before .before .before .before .before .before .before .before .before .limit-falls in
+    let if1 = c .before .before .before .before .before .before .before .before .before .before .before .before .before .before .before .before .before .before .before .before .before .before .before .before .before .before .before .if1 in
+    let loop = c .before .before .before .before .before .before .before .before .before .before .before .before .before .before .before .before .before .before .before .before .before .before .before .before .before .before .before .before .loop in (
       loop .inv .0,
       loop .inv .1,
       λ h. loop .inv .2 (if1 .taken),
       loop .inv .3,
-      ahead-done (loop .inv .4) (if1 .taken) (sym (rw (states-of .ensures, event-of .ensures) at (choose .ensures)) ∙ choice2 .given .1)
-          (sym (rw (limit-falls .ensures, going .ensures 2 (at-most-two (loop .s)), states-of .ensures, context-from .ensures, counted-by .ensures) at (after-own .ensures)) ∙ x2 .given .1),
+      ahead-done (loop .inv .4) (λ _ _ _. refl) (if1 .taken) (sym (rw (states-of .ensures, event-of .ensures) at (choose .ensures)) ∙ choice2 .given .1)
+          (sym (rw (limit-falls .ensures, going .ensures counterNum (at-most (loop .s)), states-of .ensures, context-of .ensures, counted-by .ensures) at (after-transition .ensures)) ∙ x2 .given .1),
     )
 
 returns-3 : tie.Need-returns-3 Inv-loop μ-loop
@@ -405,8 +332,8 @@ mul-machine-2 c = search needs
 shared-slice-read-machine : tie.Need-shared-slice-read-machine Inv-loop μ-loop
 shared-slice-read-machine c = search needs
 
-blocked-since-requires : tie.Need-blocked-since-requires Inv-loop μ-loop
-blocked-since-requires c κs = search needs
+blocked-for-requires : tie.Need-blocked-for-requires Inv-loop μ-loop
+blocked-for-requires c κs = search needs
 
 first-for-requires : tie.Need-first-for-requires Inv-loop μ-loop
 first-for-requires c κs = search needs
@@ -424,17 +351,15 @@ totals-after-requires c κs = search needs
 
 add-i : tie.Need-add-i Inv-loop μ-loop
 add-i c =
-    let if3 = c .before .before .before .before .before .before .before .if3 in
-    let c₁ = c .before .before .before .before .before .before .before .before in
-    let c₂ = c₁ .before .before .before .before .before .before .before .before in
-    let good = c₂ .before .before .good in
+    let if3 = c .before .before .before .before .before .before .before .before .if3 in
+    let good = c .before .before .before .before .before .before .before .before .before .before .before .before .before .before .before .before .before .before .before .good in
     omega (arith, if3 .left, good .1 .1 .1 .1 .1 .0 .0)
 
 loop-less-4 : tie.Need-loop-less-4 Inv-loop μ-loop
 loop-less-4 c =
     let end-for = c .before .end-for in
     let first-for = c .before .before .before .first-for in
-    let if3 = c .before .before .before .before .before .before .before .if3 in
+    let if3 = c .before .before .before .before .before .before .before .before .if3 in
     omega (arith, if3 .left, end-for .ensures .1 .0, first-for .ensures)
 
 loop-again-4 : tie.Need-loop-again-4 Inv-loop μ-loop
@@ -443,19 +368,17 @@ loop-again-4 c =
     let end-for = c .before .end-for in
     let smaller = c .before .before .smaller in
     let first-for = c .before .before .before .first-for in
-    let blocked-since = c .before .before .before .before .blocked-since in
-    let if3 = c .before .before .before .before .before .before .before .if3 in
-    let c₁ = c .before .before .before .before .before .before .before .before in
-    let if1 = c₁ .if1 in
-    let loop = c₁ .before .loop in
-    let c₂ = c₁ .before .before .before .before .before .before .before .before in
-    let pre = c₂ .before .before .pre in (
+    let blocked-for = c .before .before .before .before .blocked-for in
+    let if3 = c .before .before .before .before .before .before .before .before .if3 in
+    let if1 = c .before .before .before .before .before .before .before .before .before .if1 in
+    let loop = c .before .before .before .before .before .before .before .before .before .before .loop in
+    let pre = c .before .before .before .before .before .before .before .before .before .before .before .before .before .before .before .before .before .before .before .pre in (
       omega (arith, if3 .left),
       kind-fits _ _ _ (if3 .left) (pre),
       λ h. end-for .ensures .1 .1 (rw (← first-for .ensures) h),
       loop .inv .3,
       ahead-event (loop .inv .4) (if1 .left) (if3 .left)
-          (blocked-since .ensures) (first-for .ensures) (rw (smaller .ensures) at (end-for .ensures .0))
+          (blocked-for .ensures) (first-for .ensures) (rw (smaller .ensures) at (end-for .ensures .0))
           (totals-after .ensures),
     )
 
@@ -485,10 +408,10 @@ run-events-spec =
     add-m
     loop-less
     loop-again
-    context-from-requires
+    context-of-requires
     mul-p
     array-copy-out-p
-    settle-requires
+    short-way-requires
     enum-told
     enum-known-short
     mul-actions
@@ -499,7 +422,7 @@ run-events-spec =
     loop-less-2
     loop-again-2
     going-requires
-    after-own-requires
+    after-transition-requires
     enum-known-x
     stopped-requires-2
     returns-2
@@ -519,7 +442,7 @@ run-events-spec =
     add-machine
     mul-machine-2
     shared-slice-read-machine
-    blocked-since-requires
+    blocked-for-requires
     first-for-requires
     smaller-requires
     end-for-requires

@@ -9,7 +9,7 @@ use mathlib.Core.Path.{_≡_, refl, sym, ap, _∙_, subst}
 use lib.IntN.{ℤ, pos}
 use lib.Dec.{T, lit≤, ltb→lt, lt→ltb}
 use lib.Pow.{pow-pos}
-use lib.Ieee.{Float, nan, inf, fin, binary64, up, down, round, div, le, ofInt, fits, isNan}
+use lib.Ieee.{Float, nan, inf, fin, binary64, up, down, round, div, le, ofInt, fits, isNan, ofBits}
 use lib.Ieee.Fits.{down-pos}
 use lib.Ieee.Exact.{HasValue}
 use lib.Ieee.Back.{round-whole}
@@ -99,7 +99,7 @@ none-of-none-passes (inf s) = refl
 none-of-none-passes (fin s m e) = refl
 
 over-none : (y : Float) → T (above y) → div binary64 y zeroF ≡ inf false
-unfolding div
+unfolding div ofBits
 over-none nan h = absurd h
 over-none (inf true) h = absurd h
 over-none (inf false) h = refl
@@ -123,12 +123,16 @@ infinity-reaches (inf true) h = tt
 infinity-reaches (inf false) h = tt
 infinity-reaches (fin s m e) h = tt
 
+none-is-zero : ofInt binary64 (pos 0) ≡ zeroF
+unfolding ofInt ofBits
+none-is-zero = refl
+
 -- any other count of 0 reaches every fraction but a NaN
 pub some-of-none-stops : (x : Float) (p : ℕ) → T (not (isNan x)) → 0 < p → T (reached p 0 x)
 unfolding reached
 some-of-none-stops x p h some =
     let count = ofInt binary64 (pos p) in
-    let none : ofInt binary64 (pos 0) ≡ zeroF = unfold ofInt in refl in
+    let none = none-is-zero in
     let q : div binary64 count (ofInt binary64 (pos 0)) ≡ inf false =
     ap (div binary64 count) none ∙ over-none count (count-above p some) in
     subst (λ (z : Float). T (le x z)) (sym q) (infinity-reaches x h)

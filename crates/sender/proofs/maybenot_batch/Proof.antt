@@ -45,7 +45,8 @@ use lib.Ieee.{Float}
 use Rattle.steps.specs.declared.Answer.{Answer}
 use Rattle.steps.specs.declared.Framework.{Framework}
 use Rattle.sender.specs.declared.Reply.{Reply}
-use Rattle.events.specs.Run.{tables as lentTables, tapes as lentTapes}
+use Rattle.events.specs.Run.{tables as lentTables}
+use Rattle.machine.specs.Source.{tapes as lentTapes}
 use Rattle.steps.specs.Framework.{batch as batchOf}
 use Rattle.sender.specs.Reply.{replyOf}
 use Rattle.steps.proofs.Framework as T

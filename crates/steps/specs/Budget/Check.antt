@@ -18,7 +18,7 @@ use Rattle.numbers.specs.Fraction.Laws.{units-positive, passed-is-below}
 use Rattle.numbers.specs.Positive.{positive-above}
 use Rattle.numbers.specs.Saturating.{saturatingAdd}
 use Rattle.machine.specs.Constants.{machineMax, maxPaddingFrac}
-use Rattle.samples.specs.Dist.{zeroF}
+use Rattle.numbers.specs.Finite.{zeroF}
 use Rattle.steps.specs.Limits.{limitLeft, belowFraction, belowLimitPadding}
 use Rattle.steps.specs.Events.{Tables, machineWord}
 use Rattle.steps.specs.Framework.{rowsIn}
@@ -75,14 +75,14 @@ module _ (f : Float) (p n : ℕ) (small : p + n ≤ 2 ^ 53) (some : p + n ≡ 0 
 -- ---- below_limit_padding, beyond the allowance and with some packets sent: the machine's fraction and
 -- the framework's both stop
 abbrev total : MachineRuntime → ℕ
-total r = r .«padding_sent» + r .«normal_sent»
+total r = r .counts .«padding_sent» + r .counts .«normal_sent»
 
 module _ (c : Context) (r : MachineRuntime)
-    (over : r .«padding_sent» < c .«allowed_padding_packets» → ⊥) where
-  own-stops : ((rest : Bool) → belowFraction (c .«machine_padding_frac») (r .«padding_sent») (r .«normal_sent») rest ≡ false)
+    (over : r .counts .«padding_sent» < c .«allowed_padding_packets» → ⊥) where
+  own-stops : ((rest : Bool) → belowFraction (c .«machine_padding_frac») (r .counts .«padding_sent») (r .counts .«normal_sent») rest ≡ false)
       → belowLimitPadding c r ≡ false
   unfolding belowLimitPadding
-  own-stops e = rw (le-ltb (r .«padding_sent») (c .«allowed_padding_packets») (omega arith), e _)
+  own-stops e = rw (le-ltb (r .counts .«padding_sent») (c .«allowed_padding_packets») (omega arith), e _)
 
   all-stops : total r ≤ 2 ^ 53 → (total r ≡ 0 → ⊥)
       → ((rest : Bool) → belowFraction (c .«max_padding_frac») (c .«padding_sent_packets»)
@@ -90,8 +90,8 @@ module _ (c : Context) (r : MachineRuntime)
       → belowLimitPadding c r ≡ false
   unfolding belowLimitPadding
   all-stops small some e =
-      rw (le-ltb (r .«padding_sent») (c .«allowed_padding_packets») (omega arith))
-      (rest-stops (c .«machine_padding_frac») (r .«padding_sent») (r .«normal_sent») small some _
+      rw (le-ltb (r .counts .«padding_sent») (c .«allowed_padding_packets») (omega arith))
+      (rest-stops (c .«machine_padding_frac») (r .counts .«padding_sent») (r .counts .«normal_sent») small some _
       (e (limitLeft r)))
 
 -- ---- the numbers that a check reads, and what a passed check says of them
@@ -109,8 +109,8 @@ numbersOf c r = record {
   allowed = c .«allowed_padding_packets»;
   f = c .«machine_padding_frac»;
   F = c .«max_padding_frac»;
-  own = r .«padding_sent»;
-  heard = r .«normal_sent»;
+  own = r .counts .«padding_sent»;
+  heard = r .counts .«normal_sent»;
   padding = c .«padding_sent_packets»;
   normal = c .«normal_sent_packets»;
 }
@@ -123,7 +123,7 @@ OwnLaw x =
 
 abbrev pub AllLaw : Numbers → Type 0
 AllLaw x =
-    T (fits binary64 (x .F)) → 0 < in1074 (x .F) → x .own ≤ x .padding → x .heard ≡ x .normal
+    T (fits binary64 (x .F)) → 0 < in1074 (x .F) → x .own ≤ x .padding → x .heard ≤ x .normal
     → x .padding + x .normal ≤ 2 ^ 53
     → (x .own < x .allowed) ⊎ ((x .own + x .heard ≡ 0)
     ⊎ (x .padding * 2 ^ 1074 ≤ in1074 (x .F) * (x .padding + x .normal)))
@@ -133,19 +133,19 @@ module _ (c : Context) (r : MachineRuntime) (passed : belowLimitPadding c r ≡ 
   stops e = false≢true (sym e ∙ passed)
 
   pub own-passed : OwnLaw (numbersOf c r)
-  own-passed k h small = elim (decLt (r .«padding_sent») (c .«allowed_padding_packets»)) [
+  own-passed k h small = elim (decLt (r .counts .«padding_sent») (c .«allowed_padding_packets»)) [
     | yes a ↦ inl a
     | no a ↦ inr (elim (ℕ-discrete (total r) 0) [
       | yes z ↦ inl z
       | no z ↦ inr (
-          below-exactly (c .«machine_padding_frac») (r .«padding_sent») (r .«normal_sent») small z k h
+          below-exactly (c .«machine_padding_frac») (r .counts .«padding_sent») (r .counts .«normal_sent») small z k h
           (λ e. stops (own-stops c r a e))
           )
     ])
   ]
 
   pub all-passed : AllLaw (numbersOf c r)
-  all-passed k h less same small = elim (decLt (r .«padding_sent») (c .«allowed_padding_packets»)) [
+  all-passed k h less later small = elim (decLt (r .counts .«padding_sent») (c .«allowed_padding_packets»)) [
     | yes a ↦ inl a
     | no a ↦ inr (elim (ℕ-discrete (total r) 0) [
       | yes z ↦ inl z
@@ -175,19 +175,20 @@ pub record Setup : Type 0 where
 abbrev pub machinesOf : Setup → ℕ
 machinesOf S = rowsIn (S .tables .machines)
 
-pub fewer : (p n s : ℕ) → p ≤ s → s + n ≤ 2 ^ 53 → p + n ≤ 2 ^ 53
-fewer p n s l h = omega arith
+pub fewer : (p n s N : ℕ) → p ≤ s → n ≤ N → s + N ≤ 2 ^ 53 → p + n ≤ 2 ^ 53
+fewer p n s N l k h = omega arith
 
--- what machine i's check reads at p padding of its own, n normal packets and s padding of all
-abbrev pub numbersAt : Setup → ℕ → ℕ → ℕ → ℕ → Numbers
-numbersAt S i p n s = record {
+-- what machine i's check reads at p padding and n normal packets of its own, s padding and N normal
+-- packets of all
+abbrev pub numbersAt : Setup → ℕ → ℕ → ℕ → ℕ → ℕ → Numbers
+numbersAt S i p n s N = record {
   allowed = allowance (S .tables) i;
   f = fraction (S .tables) i;
   F = S .F;
   own = p;
   heard = n;
   padding = s;
-  normal = n;
+  normal = N;
 }
 
 abbrev pub checks : Setup → Checks
@@ -198,12 +199,11 @@ checks S = record {
   G = in1074 (S .F);
   A = allowance (S .tables);
   g = λ i. in1074 (fraction (S .tables) i);
-  Pass = λ i p n s. Passed (numbersAt S i p n s);
-  own-law = λ i p n s m h l small x.
+  Pass = λ i p n s N. Passed (numbersAt S i p n s N);
+  own-law = λ i p n s N m h l k small x.
       subst OwnLaw (x .reads) (own-passed (x .context) (x .runtime) (x .passed))
       (ofBits-fits binary64 (machineWord (S .tables .machines) i maxPaddingFrac)) h
-      (fewer p n s l small);
-  all-law = λ i p n s m h l small x.
-      subst AllLaw (x .reads) (all-passed (x .context) (x .runtime) (x .passed)) (S .f64) h l refl
-      small;
+      (fewer p n s N l k small);
+  all-law = λ i p n s N m h l k small x.
+      subst AllLaw (x .reads) (all-passed (x .context) (x .runtime) (x .passed)) (S .f64) h l k small;
 }

@@ -88,10 +88,17 @@ held-before held k i = go (eqb k i)
     go true t = absurd t
     go false t = t
 
+-- ---- a machine's own normal packets: all of them, since every machine is there from the opening on
+abbrev pub heard : Ledger → ℕ → ℕ
+heard l i = l .normal
+
+later : (l : Ledger) (i : ℕ) → heard l i ≤ l .normal
+later l i = le-refl (l .normal)
+
 -- ---- What the proof needs of the limits. There are M machines; machine i has the allowance A i and
 -- the fraction g i, and the framework the fraction G, each a number of U-ths, 0 for no limit. `Pass i p
--- n s` says that machine i's check passes at p padding of its own, n normal packets and s padding of
--- all. What is asked of it, up to `cap` packets, are the two laws.
+-- n s N` says that machine i's check passes at p padding and n normal packets of its own, s padding and
+-- N normal packets of all. What is asked of it, up to `cap` packets, are the two laws.
 pub record Checks : Type 1 where
   pub U : ℕ
   pub cap : ℕ
@@ -99,11 +106,11 @@ pub record Checks : Type 1 where
   pub G : ℕ
   pub A : ℕ → ℕ
   pub g : ℕ → ℕ
-  pub Pass : ℕ → ℕ → ℕ → ℕ → Type 0
-  pub own-law : (i p n s : ℕ) → i < M → 0 < g i → p ≤ s → s + n ≤ cap → Pass i p n s
+  pub Pass : ℕ → ℕ → ℕ → ℕ → ℕ → Type 0
+  pub own-law : (i p n s N : ℕ) → i < M → 0 < g i → p ≤ s → n ≤ N → s + N ≤ cap → Pass i p n s N
       → (p < A i) ⊎ ((p + n ≡ 0) ⊎ (p * U < g i * (p + n)))
-  pub all-law : (i p n s : ℕ) → i < M → 0 < G → p ≤ s → s + n ≤ cap → Pass i p n s
-      → (p < A i) ⊎ ((p + n ≡ 0) ⊎ (s * U ≤ G * (s + n)))
+  pub all-law : (i p n s N : ℕ) → i < M → 0 < G → p ≤ s → n ≤ N → s + N ≤ cap → Pass i p n s N
+      → (p < A i) ⊎ ((p + n ≡ 0) ⊎ (s * U ≤ G * (s + N)))
 
 module _ (L : Checks) where
   open Checks L using (U, cap, M, G, A, g, Pass, own-law, all-law)
@@ -111,11 +118,11 @@ module _ (L : Checks) where
   -- Transitions under unchanged counts: where b has a SendPadding pending, a had, or a check passed at
   -- these counts.
   abbrev pub Acts : Ledger → (ℕ → Bool) → (ℕ → Bool) → Type 0
-  Acts l a b = (i : ℕ) → T (b i) → (i < M) × (T (a i) ⊎ Pass i (l .own i) (l .normal) (l .padding))
+  Acts l a b = (i : ℕ) → T (b i) → (i < M) × (T (a i) ⊎ Pass i (l .own i) (heard l i) (l .padding) (l .normal))
 
   -- machine i's x is within its budget
   abbrev pub Within : Ledger → ℕ → ℕ → Type 0
-  Within l i x = Below (A i) U (g i) (l .own i + l .normal) x
+  Within l i x = Below (A i) U (g i) (l .own i + heard l i) x
 
   -- q i is machine i's padding at the last check that passed by the framework's fraction
   abbrev pub Since : Ledger → (ℕ → Bool) → Type 0
@@ -155,7 +162,7 @@ module _ (L : Checks) where
     actor = v .actor;
     total = v .total;
     machine = λ i k p.
-        below-more (A i) U (g i) (l .own i + l .normal) (l .own i + suc (l .normal)) (due l a i)
+        below-more (A i) U (g i) (l .own i + heard l i) (l .own i + suc (heard l i)) (due l a i)
         (omega arith) (v .machine i k p);
     frame = λ p. let f = v .frame p in (f .0, le-trans (f .1) (mul-le-mul (le-refl G) (grows l)), f .2);
   }
@@ -171,9 +178,9 @@ module _ (L : Checks) where
     total = ap suc (v .total) ∙ sym (sum-plus M (l .own) k (v .holder k h));
     machine = λ i m p.
         let more = plus-grows (l .own) k i in
-        below-less (A i) U (g i) (plus (l .own) k i + l .normal) (due (count l paddingSent k) a i)
+        below-less (A i) U (g i) (plus (l .own) k i + heard l i) (due (count l paddingSent k) a i)
         (due l a i) (le-of-eq (same i))
-        (below-more (A i) U (g i) (l .own i + l .normal) (plus (l .own) k i + l .normal) (due l a i)
+        (below-more (A i) U (g i) (l .own i + heard l i) (plus (l .own) k i + heard l i) (due l a i)
         (omega arith) (v .machine i m p));
     frame = λ p.
         let f = v .frame p in (
@@ -210,7 +217,7 @@ module _ (L : Checks) where
   }
     where
       P : ℕ → Type 0
-      P i = Pass i (l .own i) (l .normal) (l .padding)
+      P i = Pass i (l .own i) (heard l i) (l .padding) (l .normal)
 
       kept : (i : ℕ) → T (a i) → l .own i + bit (l .held i) + 1 ≤ due l a i
       kept i t = let e = bit-one (a i) t in omega arith
@@ -221,16 +228,16 @@ module _ (L : Checks) where
       one : (i : ℕ) → i < M → 0 < g i → (x : Bool) → (T x → (i < M) × (T (a i) ⊎ P i))
           → Within l i (l .own i + bit (l .held i) + bit x)
       one i m p false k =
-          below-less (A i) U (g i) (l .own i + l .normal) (l .own i + bit (l .held i) + 0) (due l a i)
+          below-less (A i) U (g i) (l .own i + heard l i) (l .own i + bit (l .held i) + 0) (due l a i)
           (omega arith) (v .machine i m p)
       one i m p true k = elim (k tt .1) [
         | inl t ↦
-            below-less (A i) U (g i) (l .own i + l .normal) (l .own i + bit (l .held i) + 1) (due l a i)
+            below-less (A i) U (g i) (l .own i + heard l i) (l .own i + bit (l .held i) + 1) (due l a i)
             (kept i t) (v .machine i m p)
         | inr t ↦
-            below-pass (A i) U (g i) (l .own i) (l .normal) (l .own i + bit (l .held i) + 1)
+            below-pass (A i) U (g i) (l .own i) (heard l i) (l .own i + bit (l .held i) + 1)
             (two i true)
-            (own-law i (l .own i) (l .normal) (l .padding) m p (inv-owned l a v i m) small t)
+            (own-law i (l .own i) (heard l i) (l .padding) (l .normal) m p (inv-owned l a v i m) (later l i) small t)
       ]
 
       local : 0 < G → (l .padding * U ≤ G * packets l → ⊥) → (q : ℕ → ℕ) (i : ℕ) → i < M
@@ -240,10 +247,10 @@ module _ (L : Checks) where
       local p no-all q i m d false k = omega arith
       local p no-all q i m d true k = elim (k tt .1) [
         | inl t ↦ le-trans (kept i t) d
-        | inr t ↦ pass (all-law i (l .own i) (l .normal) (l .padding) m p (inv-owned l a v i m) small t)
+        | inr t ↦ pass (all-law i (l .own i) (heard l i) (l .padding) (l .normal) m p (inv-owned l a v i m) (later l i) small t)
       ]
         where
-          pass : (l .own i < A i) ⊎ ((l .own i + l .normal ≡ 0) ⊎ (l .padding * U ≤ G * packets l))
+          pass : (l .own i < A i) ⊎ ((l .own i + heard l i ≡ 0) ⊎ (l .padding * U ≤ G * packets l))
               → l .own i + bit (l .held i) + 1 ≤ q i + A i + 2
           pass (inl k) = let z = bit-le (l .held i) in omega arith
           pass (inr (inl k)) = let z = bit-le (l .held i) in omega arith
@@ -267,7 +274,7 @@ module _ (L : Checks) where
     actor = λ i t. absurd t;
     total = v .total;
     machine = λ i m p.
-        below-less (A i) U (g i) (l .own i + l .normal) (due (returned l a) nobody i) (due l a i)
+        below-less (A i) U (g i) (l .own i + heard l i) (due (returned l a) nobody i) (due l a i)
         (low i) (v .machine i m p);
     frame = λ p. let f = v .frame p in (f .0, f .1, λ i m. le-trans (low i) (f .2 i m));
   }
@@ -278,10 +285,10 @@ module _ (L : Checks) where
   -- ---- the budgets: x is A i + 2, or what the framework allows beyond its fraction; y is 2
   pub machine-budget : (l : Ledger) (a : ℕ → Bool) → Inv l a → (i x y : ℕ) → i < M → 0 < g i
       → A i + 2 ≤ x → 2 ≤ y
-      → (l .own i ≤ x) ⊎ ((l .own i - y) * U < g i * (l .own i + l .normal))
+      → (l .own i ≤ x) ⊎ ((l .own i - y) * U < g i * (l .own i + heard l i))
   machine-budget l a v i x y m p h k =
-      below-budget (A i) U (g i) (l .own i + l .normal) (l .own i) x y h k
-      (below-less (A i) U (g i) (l .own i + l .normal) (l .own i) (due l a i) (omega arith)
+      below-budget (A i) U (g i) (l .own i + heard l i) (l .own i) x y h k
+      (below-less (A i) U (g i) (l .own i + heard l i) (l .own i) (due l a i) (omega arith)
       (v .machine i m p))
 
   -- 2 for each machine suffice

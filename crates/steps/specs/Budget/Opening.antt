@@ -4,48 +4,37 @@ use Prim.Native.Nat.{ℕ, zero, suc, _*_, _≤_, _<_}
 use native.Mathlib.Nat.{lt-irrefl}
 use native.Mathlib.Omega.{arith}
 use mathlib.Core.Bool.{Bool, true, false, cond, _&&_, false≢true}
-use mathlib.Core.List.{List, [], _∷_}
+use mathlib.Core.List.{List}
 use mathlib.Core.Path.{_≡_, refl, sym, ap, _∙_, subst}
-use lib.Dec.{T, eqb, lit<}
-use lib.ListN.{getD, set, drop, replicate, length-set, length-replicate}
+use lib.Dec.{T, lit<}
+use lib.ListN.{getD, drop, replicate, length-set, length-replicate}
 use lib.Seq.{getD-take, getD-drop}
 use lib.Ieee.{Float, nan, inf, fin, binary64, ofBits, fits, lt, le}
 use lib.Ieee.Bits.{ofBits-fits}
 use lib.Ieee.Fits.{and-r}
 use lib.Ieee.Positive.{positive}
-use borrow.Author.Tests.{eqb-true, eqb-false}
 use Rattle.numbers.specs.Fraction.{in1074}
 use Rattle.numbers.specs.Fraction.Laws.{positive-units}
 use Rattle.numbers.specs.Positive.{positive-is, limit-positive}
+use Rattle.machine.specs.Source.{Source, Telling}
+use Rattle.machine.specs.declared.source.Place.{Place}
 use Rattle.machine.specs.Constants.{machineMax, machineWords, maxPaddingFrac}
-use Rattle.machine.specs.State.{rowsOf, stateRow}
-use Rattle.samples.specs.Dist.{zeroF}
-use Rattle.samples.specs.Action.{actionOf}
-use Rattle.samples.specs.declared.dist.WholeDrawn.{WholeDrawn}
-use Rattle.samples.specs.declared.dist.WholeDrawn.the-variants.{NoWhole, GotWhole}
-use Rattle.tables.specs.First.{orElse}
+use Rattle.machine.specs.State.{rowsOf}
+use Rattle.numbers.specs.Finite.{zeroF}
 use Rattle.tables.specs.Framework.{isFraction, fractionsRefusal}
 use Rattle.tables.specs.Valid.Laws.{zero-valid}
 use Rattle.tables.specs.Machine.{tablesRefusal}
-use Rattle.steps.specs.Events.{Tables, Run, Outcome, stop, go, noRuntime, runtimeAt, machineWord, statesOf}
-use Rattle.steps.specs.Framework.{rowsIn, startLimit, opened, openTurn, openRun, openedBy, opening}
+use Rattle.steps.specs.Events.{Tables, Run, noRuntime, runtimeAt, machineWord}
+use Rattle.steps.specs.Framework.{rowsIn, openRun, opening}
+use Rattle.steps.specs.Runs.{stored-all, Ok, ok-any, none-of, openRefusal, opening-ok}
+use Rattle.steps.specs.Draws.{by-told}
+use Rattle.steps.specs.Machines.{comesIn, opening-kept}
 use Rattle.steps.specs.Budget.{empty}
 use Rattle.steps.specs.Budget.Invariant.{inv-open}
-use Rattle.steps.specs.Budget.Check.{Setup, machinesOf, checks}
-use Rattle.steps.specs.Budget.Draws.{either, WholeOk, limit-ok}
-use Rattle.steps.specs.Budget.Machine.{Has}
-use Rattle.steps.specs.Budget.Runs.{Ok, each-ok, Frame}
+use Rattle.steps.specs.Budget.Check.{Setup, checks}
+use Rattle.steps.specs.Budget.Machine.{Has, Told}
+use Rattle.steps.specs.Budget.Runs.{Frame}
 use Rattle.steps.specs.Budget.Batches.{Rest}
-use Rattle.steps.specs.declared.MachineRuntime.{MachineRuntime}
-
--- ---- no refusal among several
-none-of : (a b : ℕ) → orElse a b ≡ 0 → (a ≡ 0) × (b ≡ 0)
-unfolding orElse
-none-of a b h = by (eqb a 0) (eqb-true a 0) (eqb-false a 0) h
-  where
-    by : (c : Bool) → (c ≡ true → a ≡ 0) → (c ≡ false → a ≡ 0 → ⊥) → cond c b a ≡ 0 → (a ≡ 0) × (b ≡ 0)
-    by true e n h = (e refl, h)
-    by false e n h = absurd (n refl h)
 
 not-zero : (n : ℕ) → suc n ≡ 0 → ⊥
 not-zero n e = omega arith
@@ -98,71 +87,46 @@ framework-units F blocking k ok above =
     by false b h = absurd (not-zero 0 h)
 
 -- ---- the framework of an accepted opening
-set-all : (P : MachineRuntime → Type 0) (l : List MachineRuntime) (i : ℕ) (a d : MachineRuntime) → P a
-    → ((j : ℕ) → P (getD l j d)) → (j : ℕ) → P (getD (set l i a) j d)
-set-all P [] i a d h k j = k j
-set-all P (x ∷ l) zero a d h k zero = h
-set-all P (x ∷ l) zero a d h k (suc j) = k (suc j)
-set-all P (x ∷ l) (suc i) a d h k zero = k zero
-set-all P (x ∷ l) (suc i) a d h k (suc j) = set-all P l i a d h (λ m. k (suc m)) j
-
 none-sent : (m i : ℕ) → Has 0 0 (getD (replicate m noRuntime) i noRuntime)
 none-sent zero i = (refl, refl)
 none-sent (suc m) zero = (refl, refl)
 none-sent (suc m) (suc i) = none-sent m i
 
-start-ok : (row : List ℕ) (values : List Float) (at : ℕ) → WholeOk (startLimit row values at)
-unfolding startLimit
-start-ok row values at = either WholeOk (eqb (actionOf row) 0) _ _ tt (limit-ok row values at)
-
 -- the checks passed
-pub passed : (tables : Tables) (F blocking : Float) (time : ℕ) (values : List Float)
-    → opening tables F blocking time values .refusal ≡ 0
+pub passed : (tables : Tables) (F blocking : Float) (time : ℕ) (source : Source Place)
+    → opening tables F blocking time source .refusal ≡ 0
     → (fractionsRefusal F blocking ≡ 0)
     × (tablesRefusal (tables .machines) (tables .states) (tables .transitions) ≡ 0)
-unfolding opening
-passed tables F blocking time values ok =
+passed tables F blocking time source ok =
     none-of (fractionsRefusal F blocking)
     (tablesRefusal (tables .machines) (tables .states) (tables .transitions))
-    (by (eqb n 0) (eqb-true n 0) ok)
-  where
-    n : ℕ
-    n =
-        orElse (fractionsRefusal F blocking)
-        (tablesRefusal (tables .machines) (tables .states) (tables .transitions))
-
-    by : (b : Bool) → (b ≡ true → n ≡ 0)
-        → cond b (openedBy (openRun tables F blocking time values)) (openedBy (stop n)) .refusal ≡ 0
-        → n ≡ 0
-    by true e h = e refl
-    by false e h = h
+    (opening-ok (λ n. Unit) (λ x. Unit) (λ o. o .refusal ≡ 0 → openRefusal tables F blocking ≡ 0)
+    tables F blocking time source (λ e. ok-any (openRun tables F blocking time source))
+    (λ e h. absurd (e h)) (λ e n r h. e) (λ e x q h. e) ok)
 
 -- and the run that draws the limits went to its end
-module _ (S : Setup) (blocking : Float) (time : ℕ) (values : List Float) where
+module _ (S : Setup) (blocking : Float) (time : ℕ) (source : Source Place) (tells : Telling source) where
   open Setup S using (tables, F)
 
   Counts : Run → Type 0
   Counts x = Frame S empty (x .framework) × ((i : ℕ) → Has 0 0 (runtimeAt (x .framework) i))
 
-  run-ok : Ok (λ x. (j : ℕ) × Counts x) (openRun tables F blocking time values)
+  run-ok : Ok Told Counts (openRun tables F blocking time source)
   unfolding Counts
   run-ok =
-      each-ok (λ n i. Counts) (openTurn tables values) step (machinesOf S) 0 _ (
+      opening-kept Told Counts tables source (by-told source tells) comes F blocking time (
         record {
           machines = refl;
           frac = refl;
           normal = refl;
           padding = refl;
-          room = length-replicate
-              machineMax noRuntime;
+          room = length-replicate machineMax noRuntime;
         },
         none-sent machineMax,
       )
     where
-      into : (i : ℕ) (x : Run) → Counts x → (w : WholeDrawn) → WholeOk w
-          → Ok Counts (opened tables i x w)
-      into i x c (NoWhole n) h = h
-      into i x c (GotWhole w) h = (
+      comes : (i limit : ℕ) (at : Place) (x : Run) → Counts x → Ok Told Counts (comesIn tables i limit at x)
+      comes i limit at x c = (
         record {
           machines = c .0 .machines;
           frac = c .0 .frac;
@@ -170,29 +134,14 @@ module _ (S : Setup) (blocking : Float) (time : ℕ) (values : List Float) where
           padding = c .0 .padding;
           room = length-set (x .framework .runtime) i _ ∙ c .0 .room;
         },
-        set-all (Has 0 0) (x .framework .runtime) i _ noRuntime (refl, refl) (c .1),
+        stored-all (Has 0 0) (x .framework .runtime) i _ noRuntime (refl, refl) (c .1),
       )
 
-      step : (n i : ℕ) (x : Run) → Counts x → Ok Counts (openTurn tables values i x)
-      step n i x c =
-          unfold openTurn in
-          into i x c (startLimit (stateRow (statesOf tables i) 0) values (x .shared .«value_at»))
-          (start-ok (stateRow (statesOf tables i) 0) values (x .shared .«value_at»))
-
-  pub rests : opening tables F blocking time values .refusal ≡ 0
-      → Rest S empty (opening tables F blocking time values .framework)
-  unfolding opening Counts
-  rests ok = by (eqb n 0) (eqb-false n 0) (openRun tables F blocking time values) run-ok ok
-    where
-      n : ℕ
-      n =
-          orElse (fractionsRefusal F blocking)
-          (tablesRefusal (tables .machines) (tables .states) (tables .transitions))
-
-      by : (b : Bool) → (b ≡ false → n ≡ 0 → ⊥) → (o : Outcome) → Ok (λ x. (j : ℕ) × Counts x) o
-          → cond b (openedBy o) (openedBy (stop n)) .refusal ≡ 0
-          → Rest S empty (cond b (openedBy o) (openedBy (stop n)) .framework)
-      by true e (stop k) w z = absurd (lt-irrefl 0 (subst (λ (j : ℕ). 0 < j) z w))
-      by true e (go x) w z =
-          record { inv = inv-open (checks S); frame = w .1 .0; at = λ i h. w .1 .1 i }
-      by false e o w z = absurd (e refl z)
+  pub rests : opening tables F blocking time source .refusal ≡ 0
+      → Rest S empty (opening tables F blocking time source .framework)
+  unfolding Counts
+  rests =
+      opening-ok Told Counts (λ o. o .refusal ≡ 0 → Rest S empty (o .framework)) tables F blocking time source
+      (λ e. run-ok) (λ e z. absurd (e z))
+      (λ e n w z. absurd (lt-irrefl 0 (subst (λ (j : ℕ). 0 < j) z w)))
+      (λ e x w z. record { inv = inv-open (checks S); frame = w .0; at = λ i h. w .1 i })

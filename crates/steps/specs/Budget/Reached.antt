@@ -12,22 +12,23 @@ use mathlib.Core.Path.{_≡_, refl, subst}
 use lib.Dec.{T, ltb, eqb, ltb→lt, eqb-refl, T-not}
 use lib.ListN.{replicate}
 use lib.Ieee.{Float, ofBits, ofInt, add, sub, div, lt, le, eq}
-use Rattle.numbers.specs.Finite.{isFinite}
+use Rattle.numbers.specs.Finite.{zeroF, isFinite}
 use Rattle.numbers.specs.Fraction.{reached, in1074}
 use Rattle.numbers.specs.Round.{roundAway}
 use Rattle.machine.specs.Constants.{action, timeout, sendPadding}
 use Rattle.machine.specs.Event.{eventOf, normalSent, paddingSent, tunnelSent}
-use Rattle.machine.specs.State.{rowsOf, chanceDraw, walk, sampleState}
-use Rattle.samples.specs.Dist.{zeroF, distType, distAt, validUniform, validate, uniformDraw, distSample, orZero, capped, adjusted, sample}
+use Rattle.machine.specs.Source.{tapes, tapes-tell, chanceDraw}
+use Rattle.machine.specs.State.{rowsOf, walk, sampleState}
+use Rattle.samples.specs.Dist.{distType, distAt, validUniform, validate, uniformDraw, distSample, orZero, capped, adjusted, sample}
 use Rattle.samples.specs.Action.{sampleTimeout, sampleDuration, sampleLimit, hasLimit}
 use Rattle.tables.specs.First.{orElse, firstRefusal}
 use Rattle.tables.specs.State.{eventsRefusal, pairRefusal, rowRefusal, sumRefusal, transitionRefusal, isTarget, improbable, seenIn, sumFrom, codesUnknown, actionUnknown, commonUnknown, neededUnknown, counterUnknown, distsInvalid, actionInvalid, counterInvalid, invalid, stateRefusal}
 use Rattle.tables.specs.Machine.{beyondFraction, eachState, statesRefusal, machineRefusal, wholeTables, tablesRefusal}
 use Rattle.tables.specs.Framework.{isFraction, fractionsRefusal}
 use Rattle.steps.specs.Limits.{belowFraction, belowLimitPadding, belowActionLimits}
-use Rattle.steps.specs.Transition.{enter, scheduleAction, updateOne, updateCounter, finish, transitionBy, decrementLimit}
-use Rattle.steps.specs.Events.{Tables, each, countedBy, blockedFor, accounted, turn, machineTurn, processEvent, signals}
-use Rattle.steps.specs.Framework.{startLimit, openTurn, opening, statesFit, fitsTables, kindsFit, eventsFit, batchRefusal, triggerEvents, actionRows, batch}
+use Rattle.steps.specs.Transition.{enter, scheduleAction, updateOne, tallyA, tallyB, updateCounters, updateCounter, finish, transitionBy, decrementLimit}
+use Rattle.steps.specs.Events.{Tables, each, countsAfter, blockedFor, totalsAfter, turn, machineTurn, processEvent, signals}
+use Rattle.steps.specs.Framework.{startLimit, openMachine, opening, statesFit, fitsTables, kindsFit, eventsFit, batchRefusal, triggerEvents, actionRows, batch}
 use Rattle.steps.specs.Example.{stateWith, pairCount, quarter32, one32, quarter64, f32, f64}
 use Rattle.steps.specs.Budget.{Call, refusalOf, frameworkOf, Ledger, empty, ledger, Lists, allowance, sum}
 use Rattle.steps.specs.declared.Framework.{Framework}
@@ -45,7 +46,7 @@ tables allowed = record {
 }
 
 abbrev opens : ℕ → Opened
-opens allowed = opening (tables allowed) (f64 quarter64) zeroF 0 []
+opens allowed = opening (tables allowed) (f64 quarter64) zeroF 0 (tapes [] [])
 
 -- ---- calls with these events, and with a chance draw or without
 abbrev call : Tables → List ℕ → List Float → Call
@@ -53,7 +54,8 @@ call lent events chances = record {
   tables = lent;
   time = 0;
   events = events;
-  tapes = record { chances = chances; values = [] };
+  source = tapes chances [];
+  tells = tapes-tell chances [];
   out = replicate 6 0;
 }
 
@@ -119,14 +121,14 @@ pub lead :
     Leads 0 twice (0 ∷ 0 ∷ 0 ∷ []) 2 0 × Leads 0 refusedToo (0 ∷ 16 ∷ 0 ∷ 18 ∷ 0 ∷ 0 ∷ []) 3 4
     × Leads 2 allowedTwo (0 ∷ 0 ∷ 0 ∷ 0 ∷ []) 3 0
 unfolding
-    Lists ledger opening fractionsRefusal isFraction openTurn startLimit sampleLimit hasLimit batch
+    Lists ledger opening fractionsRefusal isFraction openMachine startLimit sampleLimit hasLimit batch
     batchRefusal fitsTables statesFit eventsFit kindsFit tablesRefusal orElse firstRefusal wholeTables
     machineRefusal beyondFraction statesRefusal eachState stateRefusal eventsRefusal pairRefusal
     rowRefusal sumRefusal transitionRefusal isTarget improbable seenIn sumFrom codesUnknown
     actionUnknown commonUnknown neededUnknown counterUnknown distsInvalid actionInvalid counterInvalid
     invalid validUniform validate distAt distType isFinite rowsOf each ofBits ofInt lt le add sub div
-    reached triggerEvents processEvent accounted blockedFor machineTurn turn countedBy eventOf
-    transitionBy chanceDraw sampleState walk enter updateCounter updateOne belowActionLimits
+    reached triggerEvents processEvent totalsAfter blockedFor machineTurn turn countsAfter eventOf
+    transitionBy chanceDraw sampleState walk enter updateCounter updateCounters tallyA tallyB updateOne belowActionLimits
     belowLimitPadding belowFraction finish scheduleAction sampleTimeout sampleDuration sample
     distSample uniformDraw eq adjusted capped orZero roundAway signals actionRows decrementLimit
 lead =

@@ -2,7 +2,7 @@
 -- keeps the invariant, and x's counts are the ledger's. In an event's turns the machines that still
 -- wait have the ledger's counts from before it and the others those from after it: `Mid`. A machine's
 -- own turn changes its own counts and action alone. Assumes nothing.
-use Prim.Native.Nat.{ℕ, zero, suc, _+_, _^_, _≤_, _<_}
+use Prim.Native.Nat.{ℕ, suc, _+_, _^_, _≤_, _<_}
 use native.Mathlib.Decide.{ℕ-discrete, decLt}
 use native.Mathlib.Omega.{arith}
 use mathlib.Core.Bool.{Bool, true}
@@ -14,40 +14,18 @@ use lib.Seq.{getD-set-same, getD-set-other}
 use Rattle.machine.specs.Constants.{machineMax}
 use Rattle.steps.specs.Limits.{belowLimitPadding}
 use Rattle.steps.specs.Transition.{noAction}
-use Rattle.steps.specs.Events.{Run, Outcome, stop, go, andThen, each, numMachines, noRuntime, runtimeAt, withRuntime, contextOf, stored}
+use Rattle.steps.specs.Events.{Run, numMachines, noRuntime, runtimeAt, withRuntime, contextOf, stored}
+use Rattle.steps.specs.Runs.{Ok}
+use Rattle.steps.specs.Walk.{Stays}
 use Rattle.steps.specs.Budget.{Ledger, packets, allowance, fraction}
-use Rattle.steps.specs.Budget.Invariant.{Acts, Inv, inv-acts}
+use Rattle.steps.specs.Budget.Invariant.{heard, Acts, Inv, inv-acts}
 use Rattle.steps.specs.Budget.Check.{Passed, numbersAt, Setup, machinesOf, checks}
-use Rattle.steps.specs.Budget.Machine.{isPadding, Has, Kept}
+use Rattle.steps.specs.Budget.Machine.{isPadding, Has, Told, kept}
 use Rattle.steps.specs.declared.MachineRuntime.{MachineRuntime}
 use Rattle.steps.specs.declared.Framework.{Framework}
 use Rattle.steps.specs.declared.TriggerAction.{TriggerAction}
 use Rattle.steps.specs.declared.Stepped.{Stepped}
 use Rattle.steps.specs.declared.Stepped.the-variants.{Refused, Done}
-
--- ---- outcomes: a run that stops gives a number that is not 0
-abbrev pub Ok : (Run → Type 0) → Outcome → Type 0
-Ok P (stop n) = 0 < n
-Ok P (go x) = P x
-
-pub ok-then : (P Q : Run → Type 0) (o : Outcome) (f : Run → Outcome) → Ok P o
-    → ((x : Run) → P x → Ok Q (f x)) → Ok Q (andThen o f)
-ok-then P Q (stop n) f h k = h
-ok-then P Q (go x) f h k = k x h
-
-pub ok-map : (P Q : Run → Type 0) (o : Outcome) → Ok P o → ((x : Run) → P x → Q x) → Ok Q o
-ok-map P Q (stop n) h k = h
-ok-map P Q (go x) h k = k x h
-
--- P n i x holds of the run x where n turns from turn i on are left
-pub each-ok : (P : ℕ → ℕ → Run → Type 0) (f : ℕ → Run → Outcome)
-    → ((n i : ℕ) (x : Run) → P (suc n) i x → Ok (P n (i + 1)) (f i x))
-    → (n i : ℕ) (x : Run) → P n i x → Ok (λ y. (j : ℕ) × P zero j y) (each f n i x)
-unfolding each
-each-ok P f h zero i x p = (i, p)
-each-ok P f h (suc n) i x p =
-    ok-then (P n (i + 1)) (λ y. (j : ℕ) × P zero j y) (f i x) (each f n (i + 1)) (h n i x p)
-    (each-ok P f h n (i + 1))
 
 module _ (S : Setup) where
   open Setup S using (tables, F, few)
@@ -58,14 +36,14 @@ module _ (S : Setup) where
   -- ---- a run whose counts are the ledger's
   pub record Frame (l : Ledger) (fw : Framework) : Type 0 where
     pub machines : fw .machines ≡ M
-    pub frac : fw .«max_padding_frac» ≡ F
-    pub normal : fw .«normal_sent_packets» ≡ l .normal
-    pub padding : fw .«padding_sent_packets» ≡ l .padding
+    pub frac : fw .fixed .«max_padding_frac» ≡ F
+    pub normal : fw .totals .«normal_sent_packets» ≡ l .normal
+    pub padding : fw .totals .«padding_sent_packets» ≡ l .padding
     pub room : length (fw .runtime) ≡ machineMax
 
   -- machine i's counts
   abbrev pub At : Ledger → Framework → ℕ → Type 0
-  At l fw i = Has (l .own i) (l .normal) (runtimeAt fw i)
+  At l fw i = Has (l .own i) (heard l i) (runtimeAt fw i)
 
   -- the machines whose pending action is SendPadding
   abbrev pub sends : Run → ℕ → Bool
@@ -89,21 +67,21 @@ module _ (S : Setup) where
 
   -- why a SendPadding is pending
   abbrev pub Why : Ledger → (ℕ → Bool) → ℕ → Type 0
-  Why l a i = T (a i) ⊎ Passed (numbersAt S i (l .own i) (l .normal) (l .padding))
+  Why l a i = T (a i) ⊎ Passed (numbersAt S i (l .own i) (heard l i) (l .padding) (l .normal))
 
   pub by-check : (l : Ledger) (a : ℕ → Bool) (fw : Framework) → Frame l fw
       → (i : ℕ) (r : MachineRuntime)
-      → r .«padding_sent» ≡ l .own i → r .«normal_sent» ≡ l .normal
-      → belowLimitPadding (contextOf tables fw i) r ≡ true → Why l a i
-  by-check l a fw f i r p n b = inr (record {
-    context = contextOf tables fw i;
+      → Has (l .own i) (heard l i) r
+      → belowLimitPadding (contextOf (tables .machines) i (fw .«current_time») (fw .fixed) (fw .totals)) r ≡ true → Why l a i
+  by-check l a fw f i r h b = inr (record {
+    context = contextOf (tables .machines) i (fw .«current_time») (fw .fixed) (fw .totals);
     runtime = r;
     reads = λ z. record {
       allowed = allowance tables i;
       f = fraction tables i;
       F = f .frac z;
-      own = p z;
-      heard = n z;
+      own = h .0 z;
+      heard = h .1 z;
       padding = f .padding z;
       normal = f .normal z;
     };
@@ -113,7 +91,7 @@ module _ (S : Setup) where
   -- ---- a machine's step goes back into the run
   pub store : (l l' : Ledger) (a : ℕ → Bool) (k n : ℕ) (x : Run) → Mid l l' a k (suc n) x → k < M
       → (s : Stepped)
-      → Kept (l' .own k) (l' .normal) (Why l' a k) s → Ok (Mid l l' a (k + 1) n) (stored x k s)
+      → Stays (kept (l' .own k) (heard l' k) (Why l' a k)) s → Ok Told (Mid l l' a (k + 1) n) (stored x k s)
   store l l' a k n x m h (Refused j) o = o
   store l l' a k n x m h (Done d) o = record {
     frame = record {
@@ -154,12 +132,12 @@ module _ (S : Setup) where
 
       other : (l : Ledger) (i : ℕ) → (i ≡ k → ⊥) → At l (x .framework) i → At l now i
       other l i e =
-          subst (Has (l .own i) (l .normal))
+          subst (Has (l .own i) (heard l i))
           (sym (getD-set-other (x .framework .runtime) k i (d .runtime) noRuntime e))
 
       own : At l' now k
       own =
-          subst (Has (l' .own k) (l' .normal))
+          subst (Has (l' .own k) (heard l' k))
           (sym (getD-set-same (x .framework .runtime) k (d .runtime) noRuntime
           (inside (length (x .framework .runtime)) (m .frame .room)))) (o .0)
 

@@ -2,7 +2,8 @@
 use borrow.Author.Needs.{needs}
 use mathlib.Core.Path.{sym, _∙_}
 use Rattle.steps.specs.Transition.{decrementLimit}
-use Rattle.transition.specs.Transition.{at-most-two}
+use Rattle.machine.specs.Constants.{counterNum}
+use Rattle.transition.specs.Transition.{at-most}
 use Rattle.transition.proofs.decrement_limit.Statement.{statement}
 use Rattle.transition.proofs.decrement_limit.Tie as tie
 
@@ -33,7 +34,7 @@ returns c =
     rw (rw (at-saturating-sub .saturating-sub .ensures, at-state-row .state-row .ensures) at
     (sym (at-at-limit .at-limit .ensures) ∙ at-if1 .if1 .taken))
     (rw (at-saturating-sub .saturating-sub .ensures, at-no-action .no-action .ensures) at
-    (c .transition .ensures 2 (at-most-two (at-args .args .d .shared))))
+    (c .transition .ensures counterNum (at-most (at-args .args .d .shared))))
 
 returns-2 : tie.Need-returns-2
 unfolding decrementLimit

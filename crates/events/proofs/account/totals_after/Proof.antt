@@ -1,7 +1,7 @@
 -- `totals_after` meets its contract, kind by kind. Assumes nothing.
 use borrow.Author.Needs.{needs}
 use borrow.Author.Tests.{eq-eqb, ne-eqb}
-use Rattle.events.specs.Account.{totalsAfter}
+use Rattle.steps.specs.Events.{totalsAfter}
 use Rattle.events.proofs.account.totals_after.Statement.{statement}
 use Rattle.events.proofs.account.totals_after.Tie as tie
 
@@ -54,6 +54,9 @@ returns-5 c =
     let if1 = c .before .before .before .before .before .if1 in
     rw (ne-eqb _ _ (if1 .left), ne-eqb _ _ (if2 .left), ne-eqb _ _ (if3 .left), eq-eqb _ _ (if5 .taken), eq-eqb _ _ (if6 .taken))
 
+blocked-for-requires : tie.Need-blocked-for-requires
+blocked-for-requires c κs = search needs
+
 saturating-add-requires-3 : tie.Need-saturating-add-requires-3
 saturating-add-requires-3 c κs = search needs
 
@@ -61,12 +64,12 @@ returns-6 : tie.Need-returns-6
 unfolding totalsAfter
 returns-6 c =
     let saturating-add3 = c .saturating-add3 in
-    let if6 = c .before .if6 in
-    let if5 = c .before .before .before .if5 in
-    let if3 = c .before .before .before .before .if3 in
-    let if2 = c .before .before .before .before .before .if2 in
-    let if1 = c .before .before .before .before .before .before .if1 in
-    rw (ne-eqb _ _ (if1 .left), ne-eqb _ _ (if2 .left), ne-eqb _ _ (if3 .left), eq-eqb _ _ (if5 .taken), ne-eqb _ _ (if6 .left), saturating-add3 .ensures)
+    let if6 = c .before .before .if6 in
+    let if5 = c .before .before .before .before .if5 in
+    let if3 = c .before .before .before .before .before .if3 in
+    let if2 = c .before .before .before .before .before .before .if2 in
+    let if1 = c .before .before .before .before .before .before .before .if1 in
+    rw (ne-eqb _ _ (if1 .left), ne-eqb _ _ (if2 .left), ne-eqb _ _ (if3 .left), eq-eqb _ _ (if5 .taken), ne-eqb _ _ (if6 .left), saturating-add3 .ensures, c .before .blocked-for .ensures)
 
 returns-7 : tie.Need-returns-7
 unfolding totalsAfter
@@ -88,6 +91,7 @@ totals-after-spec =
     returns-3
     returns-4
     returns-5
+    blocked-for-requires
     saturating-add-requires-3
     returns-6
     returns-7)

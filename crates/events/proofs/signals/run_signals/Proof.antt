@@ -4,9 +4,11 @@ use borrow.Author.Needs.{needs}
 use Prim.Native.Nat.{_+_, _*_, _-_, _≤_, min}
 use mathlib.Core.Path.{_≡_, refl, sym, _∙_}
 use native.Mathlib.Omega.{arith}
+use Rattle.machine.specs.Constants.{counterNum}
+use Rattle.machine.specs.Source.{tapes}
 use Rattle.steps.specs.Events.{signals}
-use Rattle.events.specs.Run.{tables, tapes, run}
-use Rattle.transition.specs.Transition.{at-most-two}
+use Rattle.events.specs.Run.{tables, run}
+use Rattle.transition.specs.Transition.{at-most}
 use Rattle.events.proofs.Heard.{known-is, Heard, heard-all, heard-skip, heard-turn, heard-stops}
 use Rattle.events.proofs.Heard.{heard-last, heard-quiet, heard-dropped, heard-again}
 use Rattle.events.proofs.signals.run_signals.Statement.{statement}
@@ -48,40 +50,40 @@ loop-again c =
 states-of-requires : tie.Need-states-of-requires Inv-loop μ-loop
 states-of-requires c κs = omega (arith, c .before .before .loop .inv .0, c .before .if1 .taken)
 
-context-from-requires : tie.Need-context-from-requires Inv-loop μ-loop
-context-from-requires c κs =
-    omega (arith, c .before .before .before .loop .inv .0, c .before .before .if1 .taken)
+context-of-requires : tie.Need-context-of-requires Inv-loop μ-loop
+context-of-requires c κs =
+    omega (arith, c .before .before .before .before .before .loop .inv .0, c .before .before .before .before .if1 .taken)
 
 mul-r : tie.Need-mul-r Inv-loop μ-loop
 mul-r c =
-    let if1 = c .before .before .before .if1 in
-    let loop = c .before .before .before .before .loop in
+    let if1 = c .before .before .before .before .before .if1 in
+    let loop = c .before .before .before .before .before .before .loop in
     omega (arith, loop .inv .0, if1 .taken)
 
 element-copy-out-r : tie.Need-element-copy-out-r Inv-loop μ-loop
 element-copy-out-r c =
-    let if1 = c .before .before .before .if1 in
-    let loop = c .before .before .before .before .loop in
+    let if1 = c .before .before .before .before .before .if1 in
+    let loop = c .before .before .before .before .before .before .loop in
     omega (arith, loop .inv .0, if1 .taken)
 
 mul-p : tie.Need-mul-p Inv-loop μ-loop
 mul-p c =
-    let if1 = c .before .before .before .before .if1 in
-    let loop = c .before .before .before .before .before .loop in
+    let if1 = c .before .before .before .before .before .before .if1 in
+    let loop = c .before .before .before .before .before .before .before .loop in
     omega (arith, loop .inv .0, if1 .taken)
 
 array-copy-out-p : tie.Need-array-copy-out-p Inv-loop μ-loop
 array-copy-out-p c =
-    let if1 = c .before .before .before .before .if1 in
-    let loop = c .before .before .before .before .before .loop in
+    let if1 = c .before .before .before .before .before .before .if1 in
+    let loop = c .before .before .before .before .before .before .before .loop in
     omega (arith, loop .inv .0, if1 .taken)
 
 transition-requires : tie.Need-transition-requires Inv-loop μ-loop
 transition-requires c κs =
-    let context-from = c .before .before .context-from in
-    let if1 = c .before .before .before .before .before .if1 in
-    let loop = c .before .before .before .before .before .before .loop in
-    (omega arith, rw (context-from .ensures) (omega (arith, loop .inv .0, if1 .taken)))
+    let context-of = c .before .before .context-of in
+    let if1 = c .before .before .before .before .before .before .before .if1 in
+    let loop = c .before .before .before .before .before .before .before .before .loop in
+    (omega arith, rw (context-of .ensures) (omega (arith, loop .inv .0, if1 .taken)))
 
 enum-known-x : tie.Need-enum-known-x Inv-loop μ-loop
 enum-known-x c = search needs
@@ -90,14 +92,13 @@ returns : tie.Need-returns Inv-loop μ-loop
 returns c =
     let x = c .before .x in
     let transition = c .before .before .before .transition in
-    let context-from = c .before .before .before .before .before .before .context-from in
-    let states-of = c .before .before .before .before .before .before .before .states-of in
-    let c₁ = c .before .before .before .before .before .before .before .before in
-    let if2 = c₁ .if2 in
-    let if1 = c₁ .before .if1 in
-    let loop = c₁ .before .before .loop in (
+    let context-of = c .before .before .before .before .before .before .context-of in
+    let states-of = c .before .before .before .before .before .before .before .before .before .states-of in
+    let if2 = c .before .before .before .before .before .before .before .before .before .before .if2 in
+    let if1 = c .before .before .before .before .before .before .before .before .before .before .before .if1 in
+    let loop = c .before .before .before .before .before .before .before .before .before .before .before .before .loop in (
       rw (heard-stops (loop .inv .2) (if1 .taken) (if2 .left)
-          (sym (rw (states-of .ensures, context-from .ensures) at (transition .ensures 2 (at-most-two (loop .t))))
+          (sym (rw (states-of .ensures, context-of .ensures) at (transition .ensures counterNum (at-most (loop .t))))
           ∙ x .given .1)),
       refl,
     )
@@ -107,59 +108,52 @@ enum-known-x-2 c = search needs
 
 mul-r2 : tie.Need-mul-r2 Inv-loop μ-loop
 mul-r2 c =
-    let c₁ = c .before .before .before .before .before .before .before .before in
-    let if1 = c₁ .before .before .before .if1 in
-    let loop = c₁ .before .before .before .before .loop in
+    let if1 = c .before .before .before .before .before .before .before .before .before .before .before .before .before .if1 in
+    let loop = c .before .before .before .before .before .before .before .before .before .before .before .before .before .before .loop in
     omega (arith, loop .inv .0, if1 .taken)
 
 element-set-from-r2 : tie.Need-element-set-from-r2 Inv-loop μ-loop
 element-set-from-r2 c =
-    let c₁ = c .before .before .before .before .before .before .before .before in
-    let if1 = c₁ .before .before .before .if1 in
-    let loop = c₁ .before .before .before .before .loop in
+    let if1 = c .before .before .before .before .before .before .before .before .before .before .before .before .before .if1 in
+    let loop = c .before .before .before .before .before .before .before .before .before .before .before .before .before .before .loop in
     omega (arith, loop .inv .0, if1 .taken)
 
 mul-a : tie.Need-mul-a Inv-loop μ-loop
 mul-a c =
-    let c₁ = c .before .before .before .before .before .before .before .before in
-    let if1 = c₁ .before .before .before .if1 in
-    let loop = c₁ .before .before .before .before .loop in
+    let if1 = c .before .before .before .before .before .before .before .before .before .before .before .before .before .if1 in
+    let loop = c .before .before .before .before .before .before .before .before .before .before .before .before .before .before .loop in
     omega (arith, loop .inv .0, if1 .taken)
 
 array-set-from-a : tie.Need-array-set-from-a Inv-loop μ-loop
 array-set-from-a c =
-    let c₁ = c .before .before .before .before .before .before .before .before in
-    let if1 = c₁ .before .before .before .if1 in
-    let loop = c₁ .before .before .before .before .loop in
+    let if1 = c .before .before .before .before .before .before .before .before .before .before .before .before .before .if1 in
+    let loop = c .before .before .before .before .before .before .before .before .before .before .before .before .before .before .loop in
     omega (arith, loop .inv .0, if1 .taken)
 
 add-m-2 : tie.Need-add-m-2 Inv-loop μ-loop
 add-m-2 c =
-    let c₁ = c .before .before .before .before .before .before .before .before in
-    let if1 = c₁ .before .before .before .before .if1 in
-    let loop = c₁ .before .before .before .before .before .loop in
+    let if1 = c .before .before .before .before .before .before .before .before .before .before .before .before .before .before .if1 in
+    let loop = c .before .before .before .before .before .before .before .before .before .before .before .before .before .before .before .loop in
     omega (arith, loop .inv .0, if1 .taken)
 
 loop-less-2 : tie.Need-loop-less-2 Inv-loop μ-loop
 loop-less-2 c =
-    let c₁ = c .before .before .before .before .before .before .before .before in
-    let if1 = c₁ .before .before .before .before .if1 in
+    let if1 = c .before .before .before .before .before .before .before .before .before .before .before .before .before .before .if1 in
     omega (arith, if1 .taken)
 
 loop-again-2 : tie.Need-loop-again-2 Inv-loop μ-loop
 loop-again-2 c =
     let x2 = c .before .before .before .before .x2 in
     let transition = c .before .before .before .before .before .before .transition in
-    let c₁ = c .before .before .before .before .before .before .before .before in
-    let context-from = c₁ .before .context-from in
-    let states-of = c₁ .before .before .states-of in
-    let if2 = c₁ .before .before .before .if2 in
-    let if1 = c₁ .before .before .before .before .if1 in
-    let loop = c₁ .before .before .before .before .before .loop in (
+    let context-of = c .before .before .before .before .before .before .before .before .before .context-of in
+    let states-of = c .before .before .before .before .before .before .before .before .before .before .before .before .states-of in
+    let if2 = c .before .before .before .before .before .before .before .before .before .before .before .before .before .if2 in
+    let if1 = c .before .before .before .before .before .before .before .before .before .before .before .before .before .before .if1 in
+    let loop = c .before .before .before .before .before .before .before .before .before .before .before .before .before .before .before .loop in (
       loop .inv .0,
       loop .inv .1,
       heard-turn (loop .inv .2) (if1 .taken) (if2 .left)
-          (sym (rw (states-of .ensures, context-from .ensures) at (transition .ensures 2 (at-most-two (loop .t))))
+          (sym (rw (states-of .ensures, context-of .ensures) at (transition .ensures counterNum (at-most (loop .t))))
           ∙ x2 .given .1),
     )
 
@@ -247,7 +241,7 @@ run-signals-spec =
     loop-less
     loop-again
     states-of-requires
-    context-from-requires
+    context-of-requires
     mul-r
     element-copy-out-r
     mul-p

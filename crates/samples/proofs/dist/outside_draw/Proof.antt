@@ -5,11 +5,11 @@ use borrow.Author.Needs.{needs}
 use Rattle.samples.proofs.dist.outside_draw.Statement.{statement}
 use Rattle.samples.proofs.dist.outside_draw.Tie as tie
 
-mul-t5 : tie.Need-mul-t5
-mul-t5 c = search needs
+mul-v : tie.Need-mul-v
+mul-v c = search needs
 
-shared-slice-read-t7 : tie.Need-shared-slice-read-t7
-shared-slice-read-t7 c = search needs
+shared-slice-read-v : tie.Need-shared-slice-read-v
+shared-slice-read-v c = search needs
 
 add-t8 : tie.Need-add-t8
 add-t8 c = search needs
@@ -23,4 +23,4 @@ unfolding outsideDraw
 returns-2 c = rw (le-ltb _ _ (c .if1 .left))
 
 pub outside-draw-spec : {M : Type 1} → statement M
-outside-draw-spec = tie.close (tie.spec mul-t5 shared-slice-read-t7 add-t8 returns returns-2)
+outside-draw-spec = tie.close (tie.spec mul-v shared-slice-read-v add-t8 returns returns-2)

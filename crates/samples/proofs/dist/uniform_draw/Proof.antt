@@ -16,8 +16,8 @@ mul-v c = search needs
 shared-slice-read-v : tie.Need-shared-slice-read-v
 shared-slice-read-v c = search needs
 
-add-t15 : tie.Need-add-t15
-add-t15 c = search needs
+add-t17 : tie.Need-add-t17
+add-t17 c = search needs
 
 returns-2 : tie.Need-returns-2
 unfolding uniformDraw
@@ -37,4 +37,4 @@ returns-4 c = rw (c .before .if1 .left, le-ltb _ _ (c .if2 .left))
 
 pub uniform-draw-spec : {M : Type 1} → statement M
 uniform-draw-spec =
-    tie.close (tie.spec returns mul-v shared-slice-read-v add-t15 returns-2 returns-3 returns-4)
+    tie.close (tie.spec returns mul-v shared-slice-read-v add-t17 returns-2 returns-3 returns-4)

@@ -6,6 +6,7 @@ use denote.Ref.{now}
 use mathlib.Core.Path.{_≡_, sym, _∙_}
 use native.Mathlib.Omega.{arith}
 use native.Mathlib.Nat.{sub-zero}
+use Rattle.machine.specs.Constants.{stateWords}
 use Rattle.machine.specs.State.{stateRow}
 use Rattle.tables.specs.First.{firstRefusal}
 use Rattle.tables.specs.State.{stateRefusal}
@@ -48,7 +49,7 @@ part-check-state-end c = search needs
 check-state-requires : tie.Need-check-state-requires Inv-loop μ-loop
 check-state-requires c κs = (
   search needs,
-  one-length 58 (now (c .before .before .before .before .before .args .rows))
+  one-length stateWords (now (c .before .before .before .before .before .args .rows))
       (c .before .before .loop .i) (omega (
         arith,
         c .before .before .before .before .before .pre .0,
@@ -58,7 +59,7 @@ check-state-requires c κs = (
 
 returns : tie.Need-returns Inv-loop μ-loop
 returns c =
-    let e = rw (one-row 58 _ _) at (c .before .check-state .ensures) in
+    let e = rw (one-row stateWords _ _) at (c .before .check-state .ensures) in
     e ∙ sym (c .before .before .before .before .loop .inv .1 ∙ first-here _ _ _
     (c .before .before .before .loop-test .taken) (λ z. c .if1 .taken (e ∙ z)))
 
@@ -70,7 +71,7 @@ loop-less c = search needs
 
 loop-again : tie.Need-loop-again Inv-loop μ-loop
 loop-again c =
-    let e = rw (one-row 58 _ _) at (c .before .check-state .ensures) in (
+    let e = rw (one-row stateWords _ _) at (c .before .check-state .ensures) in (
       search needs,
       c .before .before .before .before .loop .inv .1 ∙ first-on _ _ _
           (c .before .before .before .loop-test .taken) (sym e ∙ c .if1 .left),

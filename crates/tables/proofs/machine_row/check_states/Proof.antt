@@ -4,6 +4,7 @@ use mathlib.Core.Path.{_∙_}
 use native.Mathlib.Omega.{arith}
 use denote.Ref.{now}
 use borrow.Author.Tests.{eq-eqb, ne-eqb, lt-ltb}
+use Rattle.machine.specs.Constants.{stateWords}
 use Rattle.tables.specs.Machine.{statesRefusal}
 use Rattle.tables.proofs.Parts.{beyond, within, more-length}
 use Rattle.tables.proofs.machine_row.check_states.Statement.{statement}
@@ -49,7 +50,7 @@ part-check-each-state-end c = search needs
 
 check-each-state-requires : tie.Need-check-each-state-requires
 check-each-state-requires c κs = (
-  more-length 58 (now (c .before .before .before .before .before .before .before .args .states))
+  more-length stateWords (now (c .before .before .before .before .before .before .before .args .states))
       (c .before .before .before .before .before .before .before .args .first)
       (c .before .before .before .before .before .before .before .args .n)
       (omega (arith, c .before .before .if3 .left, c .before .if4 .left)),

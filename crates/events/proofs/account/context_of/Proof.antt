@@ -1,0 +1,60 @@
+-- `context_of` meets its contract: each word that it reads is the row's.
+use borrow.Author.Needs.{needs}
+use Rattle.events.proofs.account.context_of.Statement.{statement}
+use Rattle.events.proofs.account.context_of.Tie as tie
+
+mul-at : tie.Need-mul-at
+mul-at c = search needs
+
+add-word : tie.Need-add-word
+add-word c = search needs
+
+word-requires : tie.Need-word-requires
+word-requires c κs = search needs
+
+add-word-2 : tie.Need-add-word-2
+add-word-2 c = search needs
+
+word-requires-2 : tie.Need-word-requires-2
+word-requires-2 c κs = search needs
+
+f64-of-word-requires : tie.Need-f64-of-word-requires
+f64-of-word-requires c κs = search needs
+
+add-word-3 : tie.Need-add-word-3
+add-word-3 c = search needs
+
+word-requires-3 : tie.Need-word-requires-3
+word-requires-3 c κs = search needs
+
+f64-of-word-requires-2 : tie.Need-f64-of-word-requires-2
+f64-of-word-requires-2 c κs = search needs
+
+returns : tie.Need-returns
+returns c =
+    let word3 = c .before .word3 in
+    let f64-of-word = c .before .before .f64-of-word in
+    let word2 = c .before .before .before .word2 in
+    let word = c .before .before .before .before .word in
+    rw (
+      word .ensures,
+      f64-of-word .ensures,
+      word2 .ensures,
+      c .f64-of-word2 .ensures,
+      word3 .ensures,
+    )
+
+pub context-of-spec : {M : Type 1} → statement M
+context-of-spec =
+    tie.close
+    (tie.spec
+    mul-at
+    add-word
+    word-requires
+    add-word-2
+    word-requires-2
+    f64-of-word-requires
+    add-word-3
+    word-requires-3
+    f64-of-word-requires-2
+    returns)

@@ -1,0 +1,3 @@
+-- Laws that the proofs of `moves` cite.
+pub mod Blocking
+pub mod Counters
