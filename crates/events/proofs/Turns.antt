@@ -120,19 +120,17 @@ module _ {o : Outcome} {T : Tables} {D : Source Place} {es : List ℕ} {n kind m
         (withRuntime fw (set (fw .runtime) m (d .runtime))) (set actions m (d .action)) (d .shared)
     ahead-done g = ahead-turn h (on ∙ g)
 
+    -- the same, where the pending action stays
+    pub ahead-kept : {q : MachineRuntime} {t : Shared} {changed : Bool} →
+        afterTransition (envOf T D fw m) (limitFalls kind machine m) (goingOn T D kind blocked m fw actions s next at)
+        ≡ done q t (getD actions m noAction) changed →
+        Ahead o T D es n kind machine blocked (m + 1) end i (withRuntime fw (set (fw .runtime) m q)) actions t
+    ahead-kept g = rw (set-getD actions m noAction) at (ahead-done g)
+
     pub ahead-counts : onlyCounts (limitFalls kind machine m) next ≡ true →
         Ahead o T D es n kind machine blocked (m + 1) end i
         (withRuntime fw (set (fw .runtime) m (countedBy kind blocked (runtimeAt fw m)))) actions (withPlace s at)
-    unfolding machineTurn
-    ahead-counts idle = record {
-      is =
-          a .is
-          ∙ rw (
-            each-on (machineTurn T D kind machine blocked) end m (run fw actions s) h,
-            on ∙ only _ _ _ _ _ _ idle,
-            set-getD actions m noAction,
-          );
-    }
+    ahead-counts idle = ahead-kept (only _ _ _ _ _ _ idle)
 
   pub ahead-ends : end ≤ m → n ≤ i → o ≡ go (run fw actions s)
   ahead-ends h last =

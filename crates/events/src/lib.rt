@@ -15,6 +15,8 @@ use moves::action::no_action;
 use moves::choice::Choice;
 use moves::choice::choose;
 use moves::settle::Short;
+use moves::settle::runtime_after;
+use moves::settle::shared_after;
 use moves::settle::short_way;
 use steps::Framework;
 use steps::Ran;
@@ -132,20 +134,26 @@ pub fn run_events(
             let fixed = f.fixed;
             let totals = f.totals;
             let c = context_of(machines, m, f.current_time, fixed, totals);
-            let p = actions[m];
-            let short = short_way(rows, values, c, falls, chosen, counted, s, p);
+            let short = short_way(rows, values, c, falls, chosen, counted, s);
             match short {
                 Short::Elsewhere => {}
-                Short::Turned(d) => {
-                    s = d.shared;
-                    let p2 = d.action;
-                    actions[m] = p2;
-                    let r2 = d.runtime;
+                Short::Kept(d) => {
+                    let r2 = runtime_after(counted, d);
                     f.runtime[m] = r2;
+                    s = shared_after(s, d);
+                    m = m + 1;
+                    continue;
+                }
+                Short::Acted(p2, d) => {
+                    actions[m] = p2;
+                    let r2 = runtime_after(counted, d);
+                    f.runtime[m] = r2;
+                    s = shared_after(s, d);
                     m = m + 1;
                     continue;
                 }
             }
+            let p = actions[m];
             let went = transition::going(
                 rows,
                 transitions,

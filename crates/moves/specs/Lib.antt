@@ -1,4 +1,4 @@
 -- What the contracts of `moves` cite beside the definitions of `steps`.
 pub mod Choice
-pub mod Arrive
+pub mod Counter
 pub mod Short

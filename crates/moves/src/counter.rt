@@ -23,6 +23,7 @@ ghost use Rattle.machine.specs.Constants.{counterA, counterB, stateWords};
 ghost use Rattle.machine.specs.Source.{tapeValues};
 ghost use Prim.Native.Nat.{_+_, _≤_};
 ghost use Rattle.steps.specs.Transition as Spec;
+ghost use Rattle.moves.specs.Counter.{valueAfter, counterAfter};
 
 // Increment, Decrement, or Set.
 fn applied(operation: u64, old: u64, change: u64) -> u64
@@ -77,30 +78,38 @@ fn change_of(row: &[u64], k: usize, values: &[f64], at: Place, other: u64) -> Wh
     sample_value(row, k, values, at)
 }
 
-// The counter that begins at word k of the row.
-fn update_one(
-    row: &[u64],
-    k: usize,
-    values: &[f64],
-    at: Place,
-    old: u64,
-    other: u64,
-    zeroed: bool,
-) -> Counted
+// The new value of the counter that begins at word k of the row.
+fn value_after(row: &[u64], k: usize, values: &[f64], at: Place, old: u64, other: u64) -> WholeDrawn
     requires { ⌜ k + 2 ≤ stateWords ⌝ }
-    ensures { λ x. ⌜ x ≡ Spec.updateOne (now (row .entry)) k (tapeValues (now (values .entry))) at old other zeroed ⌝ }
+    ensures { λ x. ⌜ x ≡ valueAfter (now (row .entry)) k (tapeValues (now (values .entry))) at old other ⌝ }
 {
     let operation = word(row, k);
     if operation == 0 {
-        return counter_of(false, old, zeroed, at);
+        return WholeDrawn::GotWhole(Whole { value: old, at: at });
     }
     let change = change_of(row, k, values, at, other);
     match change {
-        WholeDrawn::Refused(n) => Counted::Refused(n),
+        WholeDrawn::Refused(n) => WholeDrawn::Refused(n),
         WholeDrawn::GotWhole(w) => {
             let value = applied(operation, old, w.value);
             let taken = w.at;
-            counter_of(reports_zero(old, value, zeroed), value, zeroed, taken)
+            WholeDrawn::GotWhole(Whole {
+                value: value,
+                at: taken,
+            })
+        }
+    }
+}
+
+// A counter with its new value, and whether it reports zero.
+fn counter_after(drawn: WholeDrawn, old: u64, zeroed: bool) -> Counted
+    ensures { λ x. ⌜ x ≡ counterAfter old zeroed drawn ⌝ }
+{
+    match drawn {
+        WholeDrawn::Refused(n) => Counted::Refused(n),
+        WholeDrawn::GotWhole(w) => {
+            let at = w.at;
+            counter_of(reports_zero(old, w.value, zeroed), w.value, zeroed, at)
         }
     }
 }
@@ -117,30 +126,16 @@ pub fn update_counters(
 ) -> Tallied
     ensures { λ x. ⌜ x ≡ Spec.updateCounters (now (row .entry)) (tapeValues (now (values .entry))) old zeroed at ⌝ }
 {
-    let x = update_one(
-        row,
-        COUNTER_A,
-        values,
-        at,
-        old.counter_a,
-        old.counter_b,
-        zeroed.counter_a,
-    );
+    let drawn_a = value_after(row, COUNTER_A, values, at, old.counter_a, old.counter_b);
+    let x = counter_after(drawn_a, old.counter_a, zeroed.counter_a);
     let a = match x {
         Counted::Refused(n) => return Tallied::Refused(n),
         Counted::NewValue(a) => a,
     };
     let after_a = a.at;
     let old_value_a = old.counter_a;
-    let y = update_one(
-        row,
-        COUNTER_B,
-        values,
-        after_a,
-        old.counter_b,
-        old_value_a,
-        zeroed.counter_b,
-    );
+    let drawn_b = value_after(row, COUNTER_B, values, after_a, old.counter_b, old_value_a);
+    let y = counter_after(drawn_b, old.counter_b, zeroed.counter_b);
     let b = match y {
         Counted::Refused(n) => return Tallied::Refused(n),
         Counted::NewValue(b) => b,

@@ -4,7 +4,7 @@ use native.Mathlib.Omega.{arith}
 use mathlib.Core.Bool.{Bool, true, false, cond, _||_}
 use mathlib.Core.Path.{_≡_, refl}
 use lib.Dec.{eqb}
-use Rattle.machine.specs.Constants.{counterNum, stateEnd, stateSignal}
+use Rattle.machine.specs.Constants.{counterNum, stateEnd}
 use Rattle.machine.specs.Event.{eventOf}
 use Rattle.machine.specs.Source.{chanceDraw}
 use Rattle.machine.specs.State.{stateRow, countOf}
@@ -12,8 +12,7 @@ use Rattle.machine.specs.declared.source.Place.{Place}
 use Rattle.machine.specs.declared.source.ChanceDrawn.{ChanceDrawn}
 use Rattle.machine.specs.declared.source.ChanceDrawn.the-variants.{Refused, GotChance}
 use Rattle.machine.specs.declared.state.Next.{Next}
-use Rattle.machine.specs.declared.state.Next.the-variants.{State, Nothing}
-use Rattle.moves.specs.Arrive.{Arrived, arrive, afterArrival, arrive-is}
+use Rattle.machine.specs.declared.state.Next.the-variants.{Nothing}
 use Rattle.moves.specs.Choice.{idle, chosenBy, choose}
 use Rattle.moves.specs.declared.choice.Choice.{Choice}
 use Rattle.moves.specs.declared.choice.Choice.the-variants.{Refused, Chosen}
@@ -38,15 +37,6 @@ at-most s = either (s .zeroed .«counter_a») (s .zeroed .«counter_b»)
     either true false = omega arith
     either false true = omega arith
     either false false = omega arith
-
--- ---- what follows the choice of a state, by the way to it
-pub going-to : (n : ℕ) (E : Env) (next : ℕ) (r : MachineRuntime) (s : Shared) (p : TriggerAction) {x : Arrived} →
-    eqb next stateEnd ≡ false → eqb next stateSignal ≡ false →
-    arrive (stateRow (E .rows) next) (E .source .values) (E .context) next r s p ≡ x →
-    goingAt n E (State next) r s p ≡ afterArrival (zeroTransition n E) E (stateRow (E .rows) next) (r .«current_state») x
-unfolding goingAt
-going-to n E next r s p ends signals e =
-    rw (ends, signals, arrive-is (zeroTransition n E) E (stateRow (E .rows) next) next r s p, e)
 
 -- ---- a transition is what follows its choice, of a source that does nothing at an attempt
 abbrev pub Quiet : Env → Type 0

@@ -1,7 +1,6 @@
 -- `run_events` meets its contract. The loop's invariant: the whole run is what is ahead, namely the machines from m to
 -- `end` of the event taken last, then the events from i on. The measure counts 17 for each event left, and the machines
 -- left.
-use borrow.Author.Needs.{needs}
 use Prim.Native.Nat.{_+_, _*_, _-_, _≤_, _<_}
 use mathlib.Core.Path.{_≡_, refl, sym, ap, _∙_}
 use native.Mathlib.Omega.{arith}
@@ -11,11 +10,12 @@ use Rattle.machine.specs.Source.{tapes}
 use Rattle.steps.specs.Events.{each, eventTurn}
 use Rattle.steps.specs.Framework.{begin}
 use Rattle.steps.specs.declared.Ran.{Ran}
-use Rattle.transition.specs.Short.{short-way}
+use Rattle.transition.specs.Short.{kept-turn, acted-turn}
 use Rattle.transition.specs.Transition.{at-most}
 use Rattle.events.specs.Run.{tables, ranFrom}
 use Rattle.events.proofs.Counts.{kind-fits, event-small}
-use Rattle.events.proofs.Turns.{Ahead, all-ahead, ahead-missing, ahead-counts, ahead-refused, ahead-done, ahead-ends, ahead-event}
+use Rattle.events.proofs.Turns.{Ahead, all-ahead, ahead-missing, ahead-counts, ahead-kept, ahead-refused, ahead-done, ahead-ends, ahead-event}
+use borrow.Author.Needs.{needs}
 use Rattle.events.proofs.run_events.Statement.{statement}
 use Rattle.events.proofs.run_events.Tie as tie
 
@@ -154,18 +154,6 @@ context-of-requires c κs =
     let loop = c .before .before .before .before .before .before .before .before .before .before .before .before .before .before .before .loop in
     omega (arith, if1 .taken, loop .inv .2 (if1 .taken))
 
-mul-p : tie.Need-mul-p Inv-loop μ-loop
-mul-p c =
-    let if1 = c .before .before .before .before .before .before .before .before .before .before .before .before .before .before .before .if1 in
-    let loop = c .before .before .before .before .before .before .before .before .before .before .before .before .before .before .before .before .loop in
-    omega (arith, if1 .taken, loop .inv .2 (if1 .taken))
-
-array-copy-out-p : tie.Need-array-copy-out-p Inv-loop μ-loop
-array-copy-out-p c =
-    let if1 = c .before .before .before .before .before .before .before .before .before .before .before .before .before .before .before .if1 in
-    let loop = c .before .before .before .before .before .before .before .before .before .before .before .before .before .before .before .before .loop in
-    omega (arith, if1 .taken, loop .inv .2 (if1 .taken))
-
 short-way-requires : tie.Need-short-way-requires Inv-loop μ-loop
 short-way-requires c κs = search needs
 
@@ -175,34 +163,136 @@ enum-told c = search needs
 enum-known-short : tie.Need-enum-known-short Inv-loop μ-loop
 enum-known-short c = search needs
 
-mul-actions : tie.Need-mul-actions Inv-loop μ-loop
-mul-actions c = omega (arith, c .before .before .before .before .before .before .before .before .before .before .before .before .before .before .before .before .before .before .before .before .before .before .if1 .taken, c .before .before .before .before .before .before .before .before .before .before .before .before .before .before .before .before .before .before .before .before .before .before .before .loop .inv .2 (c .before .before .before .before .before .before .before .before .before .before .before .before .before .before .before .before .before .before .before .before .before .before .if1 .taken))
-
-array-set-from-actions : tie.Need-array-set-from-actions Inv-loop μ-loop
-array-set-from-actions c = omega (arith, c .before .before .before .before .before .before .before .before .before .before .before .before .before .before .before .before .before .before .before .before .before .before .if1 .taken, c .before .before .before .before .before .before .before .before .before .before .before .before .before .before .before .before .before .before .before .before .before .before .before .loop .inv .2 (c .before .before .before .before .before .before .before .before .before .before .before .before .before .before .before .before .before .before .before .before .before .before .if1 .taken))
+runtime-after-requires : tie.Need-runtime-after-requires Inv-loop μ-loop
+runtime-after-requires c κs = search needs
 
 mul-r2 : tie.Need-mul-r2 Inv-loop μ-loop
-mul-r2 c = omega (arith, c .before .before .before .before .before .before .before .before .before .before .before .before .before .before .before .before .before .before .before .before .before .before .before .if1 .taken, c .before .before .before .before .before .before .before .before .before .before .before .before .before .before .before .before .before .before .before .before .before .before .before .before .loop .inv .2 (c .before .before .before .before .before .before .before .before .before .before .before .before .before .before .before .before .before .before .before .before .before .before .before .if1 .taken))
+mul-r2 c =
+    let if1 = c .before .before .before .before .before .before .before .before .before .before .before .before .before .before .before .before .before .before .before .before .if1 in
+    let loop = c .before .before .before .before .before .before .before .before .before .before .before .before .before .before .before .before .before .before .before .before .before .loop in
+    omega (arith, if1 .taken, loop .inv .2 (if1 .taken))
 
 element-set-from-r2 : tie.Need-element-set-from-r2 Inv-loop μ-loop
-element-set-from-r2 c = omega (arith, c .before .before .before .before .before .before .before .before .before .before .before .before .before .before .before .before .before .before .before .before .before .before .before .if1 .taken, c .before .before .before .before .before .before .before .before .before .before .before .before .before .before .before .before .before .before .before .before .before .before .before .before .loop .inv .2 (c .before .before .before .before .before .before .before .before .before .before .before .before .before .before .before .before .before .before .before .before .before .before .before .if1 .taken))
+element-set-from-r2 c =
+    let if1 = c .before .before .before .before .before .before .before .before .before .before .before .before .before .before .before .before .before .before .before .before .if1 in
+    let loop = c .before .before .before .before .before .before .before .before .before .before .before .before .before .before .before .before .before .before .before .before .before .loop in
+    omega (arith, if1 .taken, loop .inv .2 (if1 .taken))
+
+shared-after-requires : tie.Need-shared-after-requires Inv-loop μ-loop
+shared-after-requires c κs = search needs
 
 add-m-2 : tie.Need-add-m-2 Inv-loop μ-loop
-add-m-2 c = omega (arith, c .before .before .before .before .before .before .before .before .before .before .before .before .before .before .before .before .before .before .before .before .before .before .before .if1 .taken, c .before .before .before .before .before .before .before .before .before .before .before .before .before .before .before .before .before .before .before .before .before .before .before .before .loop .inv .2 (c .before .before .before .before .before .before .before .before .before .before .before .before .before .before .before .before .before .before .before .before .before .before .before .if1 .taken))
+add-m-2 c =
+    let if1 = c .before .before .before .before .before .before .before .before .before .before .before .before .before .before .before .before .before .before .before .before .before .if1 in
+    let loop = c .before .before .before .before .before .before .before .before .before .before .before .before .before .before .before .before .before .before .before .before .before .before .loop in
+    omega (arith, if1 .taken, loop .inv .2 (if1 .taken))
 
 loop-less-2 : tie.Need-loop-less-2 Inv-loop μ-loop
-loop-less-2 c = omega (arith, c .before .before .before .before .before .before .before .before .before .before .before .before .before .before .before .before .before .before .before .before .before .before .before .if1 .taken)
+loop-less-2 c =
+    let if1 = c .before .before .before .before .before .before .before .before .before .before .before .before .before .before .before .before .before .before .before .before .before .if1 in
+    omega (arith, if1 .taken)
 
 loop-again-2 : tie.Need-loop-again-2 Inv-loop μ-loop
-loop-again-2 c = (
-  c .before .before .before .before .before .before .before .before .before .before .before .before .before .before .before .before .before .before .before .before .before .before .before .before .loop .inv .0,
-  c .before .before .before .before .before .before .before .before .before .before .before .before .before .before .before .before .before .before .before .before .before .before .before .before .loop .inv .1,
-  λ h. c .before .before .before .before .before .before .before .before .before .before .before .before .before .before .before .before .before .before .before .before .before .before .before .before .loop .inv .2 (c .before .before .before .before .before .before .before .before .before .before .before .before .before .before .before .before .before .before .before .before .before .before .before .if1 .taken),
-  c .before .before .before .before .before .before .before .before .before .before .before .before .before .before .before .before .before .before .before .before .before .before .before .before .loop .inv .3,
-  ahead-done (c .before .before .before .before .before .before .before .before .before .before .before .before .before .before .before .before .before .before .before .before .before .before .before .before .loop .inv .4) (λ _ _ _. refl) (c .before .before .before .before .before .before .before .before .before .before .before .before .before .before .before .before .before .before .before .before .before .before .before .if1 .taken) (sym (rw (c .before .before .before .before .before .before .before .before .before .before .before .before .before .before .before .before .before .before .before .before .before .states-of .ensures, c .before .before .before .before .before .before .before .before .before .before .before .before .before .before .before .before .before .event-of .ensures) at (c .before .before .before .before .before .before .before .before .before .before .before .before .before .before .before .before .choose .ensures)) ∙ c .before .before .before .before .before .before .before .before .before .before .before .before .before .before .choice2 .given .1)
-      (short-way counterNum _ _ _ _ _ _ _
-      (sym (rw (c .before .before .before .before .before .before .before .before .before .before .before .before .before .before .before .before .before .before .before .before .before .states-of .ensures, c .before .before .before .before .before .before .before .before .context-of .ensures, c .before .before .before .before .before .before .before .before .before .before .before .before .before .before .before .before .before .before .before .counted-by .ensures, c .before .before .before .before .before .before .before .before .before .before .before .before .before .before .before .before .before .before .before .before .before .before .limit-falls .ensures) at (c .before .before .before .before .before .before .short-way .ensures)) ∙ c .before .before .before .before .short .given .1)),
-)
+loop-again-2 c =
+    let shared-after = c .shared-after in
+    let runtime-after = c .before .runtime-after in
+    let short = c .before .before .before .short in
+    let short-way = c .before .before .before .before .before .short-way in
+    let context-of = c .before .before .before .before .before .before .context-of in
+    let choice2 = c .before .before .before .before .before .before .before .before .before .before .before .before .choice2 in
+    let choose = c .before .before .before .before .before .before .before .before .before .before .before .before .before .before .choose in
+    let event-of = c .before .before .before .before .before .before .before .before .before .before .before .before .before .before .before .event-of in
+    let counted-by = c .before .before .before .before .before .before .before .before .before .before .before .before .before .before .before .before .before .counted-by in
+    let states-of = c .before .before .before .before .before .before .before .before .before .before .before .before .before .before .before .before .before .before .before .states-of in
+    let limit-falls = c .before .before .before .before .before .before .before .before .before .before .before .before .before .before .before .before .before .before .before .before .limit-falls in
+    let if1 = c .before .before .before .before .before .before .before .before .before .before .before .before .before .before .before .before .before .before .before .before .before .if1 in
+    let loop = c .before .before .before .before .before .before .before .before .before .before .before .before .before .before .before .before .before .before .before .before .before .before .loop in (
+      loop .inv .0,
+      loop .inv .1,
+      λ h. loop .inv .2 (if1 .taken),
+      loop .inv .3,
+      rw (runtime-after .ensures, counted-by .ensures, shared-after .ensures) (ahead-kept (loop .inv .4) (λ _ _ _. refl) (if1 .taken) (sym (rw (states-of .ensures, event-of .ensures) at (choose .ensures)) ∙ choice2 .given .1)
+          (kept-turn counterNum _ _ _ _ _ _ (sym (rw (states-of .ensures, limit-falls .ensures, context-of .ensures, counted-by .ensures) at (short-way .ensures)) ∙ short .given .1))),
+    )
+
+enum-known-short-2 : tie.Need-enum-known-short-2 Inv-loop μ-loop
+enum-known-short-2 c = search needs
+
+mul-actions : tie.Need-mul-actions Inv-loop μ-loop
+mul-actions c =
+    let if1 = c .before .before .before .before .before .before .before .before .before .before .before .before .before .before .before .before .before .before .before .if1 in
+    let loop = c .before .before .before .before .before .before .before .before .before .before .before .before .before .before .before .before .before .before .before .before .loop in
+    omega (arith, if1 .taken, loop .inv .2 (if1 .taken))
+
+array-set-from-actions : tie.Need-array-set-from-actions Inv-loop μ-loop
+array-set-from-actions c =
+    let if1 = c .before .before .before .before .before .before .before .before .before .before .before .before .before .before .before .before .before .before .before .if1 in
+    let loop = c .before .before .before .before .before .before .before .before .before .before .before .before .before .before .before .before .before .before .before .before .loop in
+    omega (arith, if1 .taken, loop .inv .2 (if1 .taken))
+
+runtime-after-requires-2 : tie.Need-runtime-after-requires-2 Inv-loop μ-loop
+runtime-after-requires-2 c κs = search needs
+
+mul-r2-2 : tie.Need-mul-r2-2 Inv-loop μ-loop
+mul-r2-2 c =
+    let if1 = c .before .before .before .before .before .before .before .before .before .before .before .before .before .before .before .before .before .before .before .before .if1 in
+    let loop = c .before .before .before .before .before .before .before .before .before .before .before .before .before .before .before .before .before .before .before .before .before .loop in
+    omega (arith, if1 .taken, loop .inv .2 (if1 .taken))
+
+element-set-from-r2-2 : tie.Need-element-set-from-r2-2 Inv-loop μ-loop
+element-set-from-r2-2 c =
+    let if1 = c .before .before .before .before .before .before .before .before .before .before .before .before .before .before .before .before .before .before .before .before .if1 in
+    let loop = c .before .before .before .before .before .before .before .before .before .before .before .before .before .before .before .before .before .before .before .before .before .loop in
+    omega (arith, if1 .taken, loop .inv .2 (if1 .taken))
+
+shared-after-requires-2 : tie.Need-shared-after-requires-2 Inv-loop μ-loop
+shared-after-requires-2 c κs = search needs
+
+add-m-3 : tie.Need-add-m-3 Inv-loop μ-loop
+add-m-3 c =
+    let if1 = c .before .before .before .before .before .before .before .before .before .before .before .before .before .before .before .before .before .before .before .before .before .if1 in
+    let loop = c .before .before .before .before .before .before .before .before .before .before .before .before .before .before .before .before .before .before .before .before .before .before .loop in
+    omega (arith, if1 .taken, loop .inv .2 (if1 .taken))
+
+loop-less-3 : tie.Need-loop-less-3 Inv-loop μ-loop
+loop-less-3 c =
+    let if1 = c .before .before .before .before .before .before .before .before .before .before .before .before .before .before .before .before .before .before .before .before .before .if1 in
+    omega (arith, if1 .taken)
+
+loop-again-3 : tie.Need-loop-again-3 Inv-loop μ-loop
+loop-again-3 c =
+    let shared-after2 = c .shared-after2 in
+    let runtime-after2 = c .before .runtime-after2 in
+    let short2 = c .before .before .before .short2 in
+    let short-way = c .before .before .before .before .before .short-way in
+    let context-of = c .before .before .before .before .before .before .context-of in
+    let choice2 = c .before .before .before .before .before .before .before .before .before .before .before .before .choice2 in
+    let choose = c .before .before .before .before .before .before .before .before .before .before .before .before .before .before .choose in
+    let event-of = c .before .before .before .before .before .before .before .before .before .before .before .before .before .before .before .event-of in
+    let counted-by = c .before .before .before .before .before .before .before .before .before .before .before .before .before .before .before .before .before .counted-by in
+    let states-of = c .before .before .before .before .before .before .before .before .before .before .before .before .before .before .before .before .before .before .before .states-of in
+    let limit-falls = c .before .before .before .before .before .before .before .before .before .before .before .before .before .before .before .before .before .before .before .before .limit-falls in
+    let if1 = c .before .before .before .before .before .before .before .before .before .before .before .before .before .before .before .before .before .before .before .before .before .if1 in
+    let loop = c .before .before .before .before .before .before .before .before .before .before .before .before .before .before .before .before .before .before .before .before .before .before .loop in (
+      loop .inv .0,
+      loop .inv .1,
+      λ h. loop .inv .2 (if1 .taken),
+      loop .inv .3,
+      rw (runtime-after2 .ensures, counted-by .ensures, shared-after2 .ensures) (ahead-done (loop .inv .4) (λ _ _ _. refl) (if1 .taken) (sym (rw (states-of .ensures, event-of .ensures) at (choose .ensures)) ∙ choice2 .given .1)
+          (acted-turn counterNum _ _ _ _ _ _ (sym (rw (states-of .ensures, limit-falls .ensures, context-of .ensures, counted-by .ensures) at (short-way .ensures)) ∙ short2 .given .1))),
+    )
+
+mul-p : tie.Need-mul-p Inv-loop μ-loop
+mul-p c =
+    let if1 = c .before .before .before .before .before .before .before .before .before .before .before .before .before .before .before .before .before .before .if1 in
+    let loop = c .before .before .before .before .before .before .before .before .before .before .before .before .before .before .before .before .before .before .before .loop in
+    omega (arith, if1 .taken, loop .inv .2 (if1 .taken))
+
+array-copy-out-p : tie.Need-array-copy-out-p Inv-loop μ-loop
+array-copy-out-p c =
+    let if1 = c .before .before .before .before .before .before .before .before .before .before .before .before .before .before .before .before .before .before .if1 in
+    let loop = c .before .before .before .before .before .before .before .before .before .before .before .before .before .before .before .before .before .before .before .loop in
+    omega (arith, if1 .taken, loop .inv .2 (if1 .taken))
 
 going-requires : tie.Need-going-requires Inv-loop μ-loop
 going-requires c κs =
@@ -247,14 +337,14 @@ returns-2 c =
 enum-known-x-2 : tie.Need-enum-known-x-2 Inv-loop μ-loop
 enum-known-x-2 c = search needs
 
-mul-r2-2 : tie.Need-mul-r2-2 Inv-loop μ-loop
-mul-r2-2 c =
+mul-r2-3 : tie.Need-mul-r2-3 Inv-loop μ-loop
+mul-r2-3 c =
     let if1 = c .before .before .before .before .before .before .before .before .before .before .before .before .before .before .before .before .before .before .before .before .before .before .before .before .before .if1 in
     let loop = c .before .before .before .before .before .before .before .before .before .before .before .before .before .before .before .before .before .before .before .before .before .before .before .before .before .before .loop in
     omega (arith, if1 .taken, loop .inv .2 (if1 .taken))
 
-element-set-from-r2-2 : tie.Need-element-set-from-r2-2 Inv-loop μ-loop
-element-set-from-r2-2 c =
+element-set-from-r2-3 : tie.Need-element-set-from-r2-3 Inv-loop μ-loop
+element-set-from-r2-3 c =
     let if1 = c .before .before .before .before .before .before .before .before .before .before .before .before .before .before .before .before .before .before .before .before .before .before .before .before .before .if1 in
     let loop = c .before .before .before .before .before .before .before .before .before .before .before .before .before .before .before .before .before .before .before .before .before .before .before .before .before .before .loop in
     omega (arith, if1 .taken, loop .inv .2 (if1 .taken))
@@ -271,19 +361,19 @@ array-set-from-actions-2 c =
     let loop = c .before .before .before .before .before .before .before .before .before .before .before .before .before .before .before .before .before .before .before .before .before .before .before .before .before .before .before .loop in
     omega (arith, if1 .taken, loop .inv .2 (if1 .taken))
 
-add-m-3 : tie.Need-add-m-3 Inv-loop μ-loop
-add-m-3 c =
+add-m-4 : tie.Need-add-m-4 Inv-loop μ-loop
+add-m-4 c =
     let if1 = c .before .before .before .before .before .before .before .before .before .before .before .before .before .before .before .before .before .before .before .before .before .before .before .before .before .before .before .if1 in
     let loop = c .before .before .before .before .before .before .before .before .before .before .before .before .before .before .before .before .before .before .before .before .before .before .before .before .before .before .before .before .loop in
     omega (arith, if1 .taken, loop .inv .2 (if1 .taken))
 
-loop-less-3 : tie.Need-loop-less-3 Inv-loop μ-loop
-loop-less-3 c =
+loop-less-4 : tie.Need-loop-less-4 Inv-loop μ-loop
+loop-less-4 c =
     let if1 = c .before .before .before .before .before .before .before .before .before .before .before .before .before .before .before .before .before .before .before .before .before .before .before .before .before .before .before .if1 in
     omega (arith, if1 .taken)
 
-loop-again-3 : tie.Need-loop-again-3 Inv-loop μ-loop
-loop-again-3 c =
+loop-again-4 : tie.Need-loop-again-4 Inv-loop μ-loop
+loop-again-4 c =
     let x2 = c .before .before .before .before .x2 in
     let after-transition = c .before .before .before .before .before .before .after-transition in
     let going = c .before .before .before .before .before .before .before .going in
@@ -355,15 +445,15 @@ add-i c =
     let good = c .before .before .before .before .before .before .before .before .before .before .before .before .before .before .before .before .before .before .before .good in
     omega (arith, if3 .left, good .1 .1 .1 .1 .1 .0 .0)
 
-loop-less-4 : tie.Need-loop-less-4 Inv-loop μ-loop
-loop-less-4 c =
+loop-less-5 : tie.Need-loop-less-5 Inv-loop μ-loop
+loop-less-5 c =
     let end-for = c .before .end-for in
     let first-for = c .before .before .before .first-for in
     let if3 = c .before .before .before .before .before .before .before .before .if3 in
     omega (arith, if3 .left, end-for .ensures .1 .0, first-for .ensures)
 
-loop-again-4 : tie.Need-loop-again-4 Inv-loop μ-loop
-loop-again-4 c =
+loop-again-5 : tie.Need-loop-again-5 Inv-loop μ-loop
+loop-again-5 c =
     let totals-after = c .totals-after in
     let end-for = c .before .end-for in
     let smaller = c .before .before .smaller in
@@ -409,31 +499,41 @@ run-events-spec =
     loop-less
     loop-again
     context-of-requires
-    mul-p
-    array-copy-out-p
     short-way-requires
     enum-told
     enum-known-short
-    mul-actions
-    array-set-from-actions
+    runtime-after-requires
     mul-r2
     element-set-from-r2
+    shared-after-requires
     add-m-2
     loop-less-2
     loop-again-2
+    enum-known-short-2
+    mul-actions
+    array-set-from-actions
+    runtime-after-requires-2
+    mul-r2-2
+    element-set-from-r2-2
+    shared-after-requires-2
+    add-m-3
+    loop-less-3
+    loop-again-3
+    mul-p
+    array-copy-out-p
     going-requires
     after-transition-requires
     enum-known-x
     stopped-requires-2
     returns-2
     enum-known-x-2
-    mul-r2-2
-    element-set-from-r2-2
+    mul-r2-3
+    element-set-from-r2-3
     mul-actions-2
     array-set-from-actions-2
-    add-m-3
-    loop-less-3
-    loop-again-3
+    add-m-4
+    loop-less-4
+    loop-again-4
     returns-3
     mul-kind
     mul-kind-2
@@ -448,5 +548,5 @@ run-events-spec =
     end-for-requires
     totals-after-requires
     add-i
-    loop-less-4
-    loop-again-4)
+    loop-less-5
+    loop-again-5)

@@ -1,6 +1,6 @@
 -- `settle` meets its contract, by the limit that was drawn and by what the counters report. Assumes nothing.
-use mathlib.Core.Path.{refl, sym, _∙_}
-use Rattle.moves.specs.Arrive.{arrive}
+use mathlib.Core.Path.{sym, _∙_}
+use Rattle.moves.specs.Short.{settle}
 use borrow.Author.Needs.{needs}
 use Rattle.moves.proofs.settle.settle.Statement.{statement}
 use Rattle.moves.proofs.settle.settle.Tie as tie
@@ -24,29 +24,44 @@ enum-known-tallied : tie.Need-enum-known-tallied
 enum-known-tallied c = search needs
 
 returns : tie.Need-returns
-unfolding arrive
+unfolding settle
 returns c =
-    rw (sym (c .before .before .before .before .before .before .before .before .before .before .enter .ensures) ∙ c .before .before .before .before .before .before .before .before .entered .given .1, sym (c .before .before .before .before .update-any .ensures) ∙ c .before .before .tallied .given .1, c .if1 .taken)
-
-counted-requires : tie.Need-counted-requires
-counted-requires c κs = search needs
+    let if1 = c .if1 in
+    let tallied = c .before .before .tallied in
+    let update-any = c .before .before .before .before .update-any in
+    let entered = c .before .before .before .before .before .before .before .before .entered in
+    let enter = c .before .before .before .before .before .before .before .before .before .before .enter in
+    rw (sym (enter .ensures) ∙ entered .given .1, sym (update-any .ensures) ∙ tallied .given .1, if1 .taken)
 
 settle-in-requires : tie.Need-settle-in-requires
-settle-in-requires c κs = rw (c .counted .ensures) (refl, refl)
+settle-in-requires c κs = search needs
 
 returns-2 : tie.Need-returns-2
-unfolding arrive
-returns-2 c = rw (sym (c .before .before .enter .ensures) ∙ c .enum-told .given .1)
+unfolding settle
+returns-2 c =
+    let enum-told = c .enum-told in
+    let enter = c .before .before .enter in
+    rw (sym (enter .ensures) ∙ enum-told .given .1)
 
 returns-3 : tie.Need-returns-3
-unfolding arrive
-returns-3 c = rw (sym (c .before .before .before .before .before .before .before .before .enter .ensures) ∙ c .before .before .before .before .before .before .entered .given .1, sym (c .before .before .update-any .ensures) ∙ c .enum-told2 .given .1)
+unfolding settle
+returns-3 c =
+    let enum-told2 = c .enum-told2 in
+    let update-any = c .before .before .update-any in
+    let entered = c .before .before .before .before .before .before .entered in
+    let enter = c .before .before .before .before .before .before .before .before .enter in
+    rw (sym (enter .ensures) ∙ entered .given .1, sym (update-any .ensures) ∙ enum-told2 .given .1)
 
 returns-4 : tie.Need-returns-4
-unfolding arrive
+unfolding settle
 returns-4 c =
-    rw (sym (c .before .before .before .before .before .before .before .before .before .before .before .before .enter .ensures) ∙ c .before .before .before .before .before .before .before .before .before .before .entered .given .1, sym (c .before .before .before .before .before .before .update-any .ensures) ∙ c .before .before .before .before .tallied .given .1, c .before .before .if1 .left)
-    (rw (c .before .counted .ensures) at (c .settle-in .ensures))
+    let settle-in = c .settle-in in
+    let if1 = c .before .if1 in
+    let tallied = c .before .before .before .tallied in
+    let update-any = c .before .before .before .before .before .update-any in
+    let entered = c .before .before .before .before .before .before .before .before .before .entered in
+    let enter = c .before .before .before .before .before .before .before .before .before .before .before .enter in
+    rw (sym (enter .ensures) ∙ entered .given .1, sym (update-any .ensures) ∙ tallied .given .1, if1 .left) (rw (if1 .left) at (settle-in .ensures))
 
 pub settle-spec : {M : Type 1} → statement M
 settle-spec =
@@ -59,7 +74,6 @@ settle-spec =
     enum-told-2
     enum-known-tallied
     returns
-    counted-requires
     settle-in-requires
     returns-2
     returns-3
