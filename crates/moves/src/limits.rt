@@ -11,7 +11,7 @@ use steps::Context;
 use steps::MachineRuntime;
 ghost use mathlib.Core.Path.{_≡_};
 ghost use mathlib.Core.Bool.{_&&_};
-ghost use Rattle.steps.specs.Limits.{replaceOf, belowFraction, belowLimitPadding, blockingOn, withOngoing, blockingReached, belowLimitBlocking, belowActionLimits};
+ghost use Rattle.steps.specs.Limits.{replaceOf, belowFraction, belowLimitPadding, blockingOn, withOngoing, blockingReached, ownReached, allReached, belowLimitBlocking, belowActionLimits};
 
 // ---- padding
 
@@ -89,24 +89,38 @@ fn blocking_reached(f: f64, blocked: u64, since: u64) -> bool
     false
 }
 
+// The machine's fraction of the time since its start.
+fn own_reached(c: Context, r: MachineRuntime) -> bool
+    ensures { λ x. ⌜ x ≡ ownReached c r ⌝ }
+{
+    let blocked = with_ongoing(c, r.counts.blocking_duration);
+    let running = saturating_duration_since(c.current_time, r.machine_start);
+    blocking_reached(c.machine_blocking_frac, blocked, running)
+}
+
+// The framework's.
+fn all_reached(c: Context) -> bool
+    ensures { λ x. ⌜ x ≡ allReached c ⌝ }
+{
+    let blocked = with_ongoing(c, c.blocking_duration);
+    let running = saturating_duration_since(c.current_time, c.framework_start);
+    blocking_reached(c.max_blocking_frac, blocked, running)
+}
+
 fn below_limit_blocking(c: Context, r: MachineRuntime, replace: bool) -> bool
     ensures { λ x. ⌜ x ≡ belowLimitBlocking c r replace ⌝ }
 {
     if replaces_blocking(c, replace) {
         return r.state_limit > 0;
     }
-    let blocked = with_ongoing(c, r.counts.blocking_duration);
     // the allowance comes before both fractions
-    if blocked < r.allowed_blocked_microsec {
+    if with_ongoing(c, r.counts.blocking_duration) < r.allowed_blocked_microsec {
         return r.state_limit > 0;
     }
-    let running = saturating_duration_since(c.current_time, r.machine_start);
-    if blocking_reached(c.machine_blocking_frac, blocked, running) {
+    if own_reached(c, r) {
         return false;
     }
-    let all_blocked = with_ongoing(c, c.blocking_duration);
-    let all_running = saturating_duration_since(c.current_time, c.framework_start);
-    if blocking_reached(c.max_blocking_frac, all_blocked, all_running) {
+    if all_reached(c) {
         return false;
     }
     r.state_limit > 0

@@ -54,14 +54,21 @@ withOngoing c d = cond (blockingOn (c .«blocking_active»)) (saturatingAdd d (c
 abbrev pub blockingReached : Float → ℕ → ℕ → Bool
 blockingReached f blocked since = cond (lt zeroF f) (reached blocked since f) false
 
+-- the machine's fraction of the time since its start, and the framework's
+abbrev pub ownReached : Context → MachineRuntime → Bool
+ownReached c r =
+    blockingReached (c .«machine_blocking_frac») (withOngoing c (r .counts .«blocking_duration»)) (c .«current_time» - r .«machine_start»)
+
+abbrev pub allReached : Context → Bool
+allReached c =
+    blockingReached (c .«max_blocking_frac») (withOngoing c (c .«blocking_duration»)) (c .«current_time» - c .«framework_start»)
+
 -- below_limit_blocking: replacing ongoing blocking and the machine's allowance come first, then both fractions, then the state limit
 unfoldable pub belowLimitBlocking : Context → MachineRuntime → Bool → Bool
 belowLimitBlocking c r replace =
     cond (replace && blockingOn (c .«blocking_active»)) (limitLeft r)
     (cond (ltb (withOngoing c (r .counts .«blocking_duration»)) (r .«allowed_blocked_microsec»)) (limitLeft r)
-    (cond (blockingReached (c .«machine_blocking_frac») (withOngoing c (r .counts .«blocking_duration»)) (c .«current_time» - r .«machine_start»)) false
-    (cond (blockingReached (c .«max_blocking_frac») (withOngoing c (c .«blocking_duration»)) (c .«current_time» - c .«framework_start»)) false
-    (limitLeft r))))
+    (cond (ownReached c r) false (cond (allReached c) false (limitLeft r))))
 
 -- ---- below_action_limits, of the row of the machine's state: a state without an action sets none, and Cancel always passes
 unfoldable pub belowActionLimits : Context → MachineRuntime → List ℕ → Bool
