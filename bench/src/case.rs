@@ -116,6 +116,42 @@ impl Case {
         time
     }
 
+    /// The same by an archive that may be another one.
+    #[cfg(other)]
+    #[rustfmt::skip]
+    pub fn time_archive(&self, archive: &crate::other::Archive) -> f64 {
+        let Words { machines: m, states: s, transitions: t } = self.tables.words();
+        let values = &self.tapes.values;
+        // SAFETY: slices are lent as they are, and `Words` has room for the framework.
+        let opened = unsafe {
+            (archive.opening)(
+                0.5, 0.5, 0, m.as_ptr(), m.len(), s.as_ptr(), s.len(), t.as_ptr(), t.len(),
+                values.as_ptr(), values.len(),
+            )
+        };
+        assert_eq!(opened.refusal, 0);
+        let mut framework = opened.framework;
+        let (mut chance_at, mut value_at) = (0, opened.value_used as usize);
+        let mut out = [0; OUT];
+        let start = Clock::start();
+        for batch in &self.batches {
+            let (events, chances) = (&batch.ours, &self.tapes.chances[chance_at..]);
+            let values = &values[value_at..];
+            // SAFETY: as above.
+            let reply = unsafe {
+                (archive.batch)(
+                    &mut framework, m.as_ptr(), m.len(), s.as_ptr(), s.len(), t.as_ptr(), t.len(),
+                    batch.time, events.as_ptr(), events.len(), chances.as_ptr(), chances.len(),
+                    values.as_ptr(), values.len(), out.as_mut_ptr(), OUT,
+                )
+            };
+            chance_at += reply.chance_used as usize;
+            value_at += reply.value_used as usize;
+            black_box(&out[..6 * reply.actions as usize]);
+        }
+        self.per_batch(start)
+    }
+
     /// The same through the typed binding.
     pub fn time_typed(&self) -> f64 {
         let mut framework = self.ours.clone();

@@ -1,11 +1,14 @@
 //! Times the library against the Rust: same machines, events and draws, one process, in turns.
 //!
 //! `cargo run --release` prints the tables. With MACHINES STATES EVENTS SIDE BATCHES after `--` it
-//! runs one side (`ours`, `rust` or `check`) of one case, for a profiler.
+//! runs one side (`ours`, `rust` or `check`) of one case, for a profiler. Built with another archive,
+//! `-- other` times it beside the present one.
 
 mod case;
 mod clock;
 mod input;
+#[cfg(other)]
+mod other;
 mod reference;
 
 use case::Case;
@@ -207,6 +210,12 @@ fn main() {
     clock::stay_on_one_core();
     if args.len() == 5 {
         return profile(&args);
+    }
+    if args == ["other"] {
+        #[cfg(other)]
+        return other::compare();
+        #[cfg(not(other))]
+        panic!("built without OTHER_ARCHIVE");
     }
     fixed_cost();
     events_table();

@@ -95,6 +95,7 @@ typedef struct maybenot_machine_runtime {
 
 /* ---- the framework: kept by the sender, written by maybenot_batch alone */
 typedef struct maybenot_framework {
+    maybenot_machine_runtime runtime[MAYBENOT_MAX_MACHINES];
     uint64_t machines;
     uint64_t current_time;
     uint64_t signal_pending; /* 0 none, 1 all machines, 2 + m all but machine m */
@@ -106,7 +107,6 @@ typedef struct maybenot_framework {
     uint64_t blocking_duration;
     uint64_t blocking_started;
     uint64_t blocking_active; /* on where it is not 0 */
-    maybenot_machine_runtime runtime[MAYBENOT_MAX_MACHINES];
 } maybenot_framework;
 
 typedef struct maybenot_opened {

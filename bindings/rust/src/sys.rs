@@ -41,6 +41,7 @@ pub struct MachineRuntime {
 #[repr(C)]
 #[derive(Debug, Clone, Copy, PartialEq)]
 pub struct Framework {
+    pub runtime: [MachineRuntime; MAX_MACHINES],
     pub machines: u64,
     pub current_time: u64,
     /// 0 none, 1 all machines, 2 + m all but machine m.
@@ -54,7 +55,6 @@ pub struct Framework {
     pub blocking_started: u64,
     /// On where it is not 0.
     pub blocking_active: u64,
-    pub runtime: [MachineRuntime; MAX_MACHINES],
 }
 
 /// The answer of an opening.
@@ -100,20 +100,20 @@ const _: () = {
     assert!(offset_of!(MachineRuntime, counter_a) == 56);
     assert!(offset_of!(MachineRuntime, counter_b) == 64);
 
-    assert!(size_of::<Framework>() == 88 + 16 * 72);
+    assert!(size_of::<Framework>() == 16 * 72 + 88);
     assert!(size_of::<Framework>() == 8 * FRAMEWORK_WORDS);
-    assert!(offset_of!(Framework, machines) == 0);
-    assert!(offset_of!(Framework, current_time) == 8);
-    assert!(offset_of!(Framework, signal_pending) == 16);
-    assert!(offset_of!(Framework, max_padding_frac) == 24);
-    assert!(offset_of!(Framework, max_blocking_frac) == 32);
-    assert!(offset_of!(Framework, framework_start) == 40);
-    assert!(offset_of!(Framework, normal_sent_packets) == 48);
-    assert!(offset_of!(Framework, padding_sent_packets) == 56);
-    assert!(offset_of!(Framework, blocking_duration) == 64);
-    assert!(offset_of!(Framework, blocking_started) == 72);
-    assert!(offset_of!(Framework, blocking_active) == 80);
-    assert!(offset_of!(Framework, runtime) == 88);
+    assert!(offset_of!(Framework, runtime) == 0);
+    assert!(offset_of!(Framework, machines) == 16 * 72);
+    assert!(offset_of!(Framework, current_time) == 16 * 72 + 8);
+    assert!(offset_of!(Framework, signal_pending) == 16 * 72 + 16);
+    assert!(offset_of!(Framework, max_padding_frac) == 16 * 72 + 24);
+    assert!(offset_of!(Framework, max_blocking_frac) == 16 * 72 + 32);
+    assert!(offset_of!(Framework, framework_start) == 16 * 72 + 40);
+    assert!(offset_of!(Framework, normal_sent_packets) == 16 * 72 + 48);
+    assert!(offset_of!(Framework, padding_sent_packets) == 16 * 72 + 56);
+    assert!(offset_of!(Framework, blocking_duration) == 16 * 72 + 64);
+    assert!(offset_of!(Framework, blocking_started) == 16 * 72 + 72);
+    assert!(offset_of!(Framework, blocking_active) == 16 * 72 + 80);
 
     assert!(size_of::<Opened>() == 24 + size_of::<Framework>());
     assert!(offset_of!(Opened, refusal) == 0);

@@ -411,13 +411,22 @@ shared-slice-read-kind : tie.Need-shared-slice-read-kind Inv-loop μ-loop
 shared-slice-read-kind c = search needs
 
 mul-machine : tie.Need-mul-machine Inv-loop μ-loop
-mul-machine c = search needs
+mul-machine c =
+    let if3 = c .before .if3 in
+    let good = c .before .before .before .before .before .before .before .before .before .before .before .before .good in
+    omega (arith, if3 .left, good .1 .1 .1 .1 .1 .0 .0)
 
 add-machine : tie.Need-add-machine Inv-loop μ-loop
-add-machine c = search needs
+add-machine c =
+    let if3 = c .before .if3 in
+    let good = c .before .before .before .before .before .before .before .before .before .before .before .before .good in
+    omega (arith, if3 .left, good .1 .1 .1 .1 .1 .0 .0)
 
 mul-machine-2 : tie.Need-mul-machine-2 Inv-loop μ-loop
-mul-machine-2 c = search needs
+mul-machine-2 c =
+    let if3 = c .before .if3 in
+    let good = c .before .before .before .before .before .before .before .before .before .before .before .before .good in
+    omega (arith, if3 .left, good .1 .1 .1 .1 .1 .0 .0)
 
 shared-slice-read-machine : tie.Need-shared-slice-read-machine Inv-loop μ-loop
 shared-slice-read-machine c = search needs
