@@ -197,13 +197,13 @@ pub fn context_of(
 {
     let at = m * MACHINE_WORDS;
     let allowed_padding_packets = word(machines, at + ALLOWED_PADDING_PACKETS);
-    let machine_padding_frac = numbers::f64_of_word(word(machines, at + MAX_PADDING_FRAC));
-    let machine_blocking_frac = numbers::f64_of_word(word(machines, at + MAX_BLOCKING_FRAC));
+    let machine_padding_bits = word(machines, at + MAX_PADDING_FRAC);
+    let machine_blocking_bits = word(machines, at + MAX_BLOCKING_FRAC);
     Context {
         machine: m as u64,
         allowed_padding_packets: allowed_padding_packets,
-        machine_padding_frac: machine_padding_frac,
-        machine_blocking_frac: machine_blocking_frac,
+        machine_padding_bits: machine_padding_bits,
+        machine_blocking_bits: machine_blocking_bits,
         current_time: current_time,
         max_padding_frac: fixed.max_padding_frac,
         max_blocking_frac: fixed.max_blocking_frac,

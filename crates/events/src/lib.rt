@@ -133,8 +133,8 @@ pub fn run_events(
             }
             let fixed = f.fixed;
             let totals = f.totals;
-            let c = context_of(machines, m, f.current_time, fixed, totals);
-            let short = short_way(rows, values, c, falls, chosen, counted, s);
+            let read = context_of(machines, m, f.current_time, fixed, totals);
+            let short = short_way(rows, values, read, falls, chosen, counted, s);
             match short {
                 Short::Elsewhere => {}
                 Short::Kept(d) => {
@@ -154,6 +154,8 @@ pub fn run_events(
                 }
             }
             let p = actions[m];
+            // anew: one that both ways read would be made in memory and copied for the short one
+            let c = context_of(machines, m, f.current_time, fixed, totals);
             let went = transition::going(
                 rows,
                 transitions,

@@ -47,7 +47,7 @@ fn below_limit_padding(c: Context, r: MachineRuntime) -> bool
         left,
     );
     below_fraction(
-        c.machine_padding_frac,
+        numbers::f64_of_word(c.machine_padding_bits),
         r.counts.padding_sent,
         r.counts.normal_sent,
         all,
@@ -95,7 +95,8 @@ fn own_reached(c: Context, r: MachineRuntime) -> bool
 {
     let blocked = with_ongoing(c, r.counts.blocking_duration);
     let running = saturating_duration_since(c.current_time, r.machine_start);
-    blocking_reached(c.machine_blocking_frac, blocked, running)
+    let most = numbers::f64_of_word(c.machine_blocking_bits);
+    blocking_reached(most, blocked, running)
 }
 
 // The framework's.

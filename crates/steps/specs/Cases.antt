@@ -64,8 +64,8 @@ abbrev underHalf : (padding normal : ℕ) → Context
 underHalf padding normal = record {
   machine = 0;
   «allowed_padding_packets» = 0;
-  «machine_padding_frac» = f64 half64;
-  «machine_blocking_frac» = zeroF;
+  «machine_padding_bits» = half64;
+  «machine_blocking_bits» = 0;
   «current_time» = 0;
   «max_padding_frac» = zeroF;
   «max_blocking_frac» = zeroF;

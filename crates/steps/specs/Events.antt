@@ -5,7 +5,6 @@ use mathlib.Core.List.{List}
 use mathlib.Core.Bool.{Bool, cond, not, _&&_, _||_}
 use lib.ListN.{getD, set}
 use lib.Dec.{ltb, leb, eqb}
-use lib.Ieee.{binary64, ofBits}
 use Rattle.machine.specs.Source.{Source}
 use Rattle.machine.specs.declared.source.Place.{Place}
 use Rattle.numbers.specs.Saturating.{saturatingAdd}
@@ -94,8 +93,8 @@ abbrev pub contextOf : List ℕ → ℕ → ℕ → Fixed → Totals → Context
 contextOf machines i time fixed totals = record {
   machine = i;
   «allowed_padding_packets» = machineWord machines i allowedPaddingPackets;
-  «machine_padding_frac» = ofBits binary64 (machineWord machines i maxPaddingFrac);
-  «machine_blocking_frac» = ofBits binary64 (machineWord machines i maxBlockingFrac);
+  «machine_padding_bits» = machineWord machines i maxPaddingFrac;
+  «machine_blocking_bits» = machineWord machines i maxBlockingFrac;
   «current_time» = time;
   «max_padding_frac» = fixed .«max_padding_frac»;
   «max_blocking_frac» = fixed .«max_blocking_frac»;

@@ -4,7 +4,7 @@ use mathlib.Core.List.{List}
 use mathlib.Core.Bool.{Bool, true, false, cond, not, _&&_}
 use lib.ListN.{getD}
 use lib.Dec.{ltb, eqb}
-use lib.Ieee.{Float, lt}
+use lib.Ieee.{Float, binary64, ofBits, lt}
 use Rattle.numbers.specs.Finite.{zeroF}
 use Rattle.numbers.specs.Fraction.{reached}
 use Rattle.numbers.specs.Saturating.{saturatingAdd}
@@ -24,6 +24,13 @@ replaceOf row = eqb (flagsOf row / 2 % 2) 1
 abbrev pub limitLeft : MachineRuntime → Bool
 limitLeft r = ltb 0 (r .«state_limit»)
 
+-- the fractions of the machine's row
+abbrev pub machinePaddingFrac : Context → Float
+machinePaddingFrac c = ofBits binary64 (c .«machine_padding_bits»)
+
+abbrev pub machineBlockingFrac : Context → Float
+machineBlockingFrac c = ofBits binary64 (c .«machine_blocking_bits»)
+
 -- ---- padding
 -- One fraction, of p padding beside n normal packets. Above 0 it is a limit: with a total of 0 it allows whatever follows, and
 -- reaching it stops. Totals saturate.
@@ -38,7 +45,7 @@ belowFraction f p n rest =
 unfoldable pub belowLimitPadding : Context → MachineRuntime → Bool
 belowLimitPadding c r =
     cond (ltb (r .counts .«padding_sent») (c .«allowed_padding_packets»)) (limitLeft r)
-    (belowFraction (c .«machine_padding_frac») (r .counts .«padding_sent») (r .counts .«normal_sent»)
+    (belowFraction (machinePaddingFrac c) (r .counts .«padding_sent») (r .counts .«normal_sent»)
     (belowFraction (c .«max_padding_frac») (c .«padding_sent_packets») (c .«normal_sent_packets») (limitLeft r)))
 
 -- ---- blocking
@@ -57,7 +64,7 @@ blockingReached f blocked since = cond (lt zeroF f) (reached blocked since f) fa
 -- the machine's fraction of the time since its start, and the framework's
 abbrev pub ownReached : Context → MachineRuntime → Bool
 ownReached c r =
-    blockingReached (c .«machine_blocking_frac») (withOngoing c (r .counts .«blocking_duration»)) (c .«current_time» - r .«machine_start»)
+    blockingReached (machineBlockingFrac c) (withOngoing c (r .counts .«blocking_duration»)) (c .«current_time» - r .«machine_start»)
 
 abbrev pub allReached : Context → Bool
 allReached c =

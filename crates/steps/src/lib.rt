@@ -82,12 +82,12 @@ pub struct Shared {
 }
 
 // What a machine's transition reads and does not change: its number and its row's limits, then the framework's own numbers, flat,
-// so that it is lent on without a copy.
+// so that it is lent on without a copy. The row's fractions are its words, since most transitions do not judge them.
 pub struct Context {
     pub machine: u64,
     pub allowed_padding_packets: u64,
-    pub machine_padding_frac: f64,
-    pub machine_blocking_frac: f64,
+    pub machine_padding_bits: u64,
+    pub machine_blocking_bits: u64,
     pub current_time: u64,
     pub max_padding_frac: f64,
     pub max_blocking_frac: f64,

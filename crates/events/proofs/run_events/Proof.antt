@@ -294,18 +294,24 @@ array-copy-out-p c =
     let loop = c .before .before .before .before .before .before .before .before .before .before .before .before .before .before .before .before .before .before .before .loop in
     omega (arith, if1 .taken, loop .inv .2 (if1 .taken))
 
-going-requires : tie.Need-going-requires Inv-loop μ-loop
-going-requires c κs =
-    let context-of = c .before .before .before .before .context-of in
+context-of-requires-2 : tie.Need-context-of-requires-2 Inv-loop μ-loop
+context-of-requires-2 c κs =
     let if1 = c .before .before .before .before .before .before .before .before .before .before .before .before .before .before .before .before .before .before .before .if1 in
     let loop = c .before .before .before .before .before .before .before .before .before .before .before .before .before .before .before .before .before .before .before .before .loop in
+    omega (arith, if1 .taken, loop .inv .2 (if1 .taken))
+
+going-requires : tie.Need-going-requires Inv-loop μ-loop
+going-requires c κs =
+    let context-of = c .context-of2 in
+    let if1 = c .before .before .before .before .before .before .before .before .before .before .before .before .before .before .before .before .before .before .before .before .if1 in
+    let loop = c .before .before .before .before .before .before .before .before .before .before .before .before .before .before .before .before .before .before .before .before .before .loop in
     rw (context-of .ensures) (omega (arith, if1 .taken, loop .inv .2 (if1 .taken)))
 
 after-transition-requires : tie.Need-after-transition-requires Inv-loop μ-loop
 after-transition-requires c κs =
-    let context-of = c .before .before .before .before .before .context-of in
-    let if1 = c .before .before .before .before .before .before .before .before .before .before .before .before .before .before .before .before .before .before .before .before .if1 in
-    let loop = c .before .before .before .before .before .before .before .before .before .before .before .before .before .before .before .before .before .before .before .before .before .loop in
+    let context-of = c .before .context-of2 in
+    let if1 = c .before .before .before .before .before .before .before .before .before .before .before .before .before .before .before .before .before .before .before .before .before .if1 in
+    let loop = c .before .before .before .before .before .before .before .before .before .before .before .before .before .before .before .before .before .before .before .before .before .before .loop in
     rw (context-of .ensures) (omega (arith, if1 .taken, loop .inv .2 (if1 .taken)))
 
 enum-known-x : tie.Need-enum-known-x Inv-loop μ-loop
@@ -320,15 +326,15 @@ returns-2 c =
     let x = c .before .before .x in
     let after-transition = c .before .before .before .before .after-transition in
     let going = c .before .before .before .before .before .going in
-    let context-of = c .before .before .before .before .before .before .before .before .before .before .context-of in
-    let choice2 = c .before .before .before .before .before .before .before .before .before .before .before .before .before .before .before .before .choice2 in
-    let choose = c .before .before .before .before .before .before .before .before .before .before .before .before .before .before .before .before .before .before .choose in
-    let event-of = c .before .before .before .before .before .before .before .before .before .before .before .before .before .before .before .before .before .before .before .event-of in
-    let counted-by = c .before .before .before .before .before .before .before .before .before .before .before .before .before .before .before .before .before .before .before .before .before .counted-by in
-    let states-of = c .before .before .before .before .before .before .before .before .before .before .before .before .before .before .before .before .before .before .before .before .before .before .before .states-of in
-    let limit-falls = c .before .before .before .before .before .before .before .before .before .before .before .before .before .before .before .before .before .before .before .before .before .before .before .before .limit-falls in
-    let if1 = c .before .before .before .before .before .before .before .before .before .before .before .before .before .before .before .before .before .before .before .before .before .before .before .before .before .if1 in
-    let loop = c .before .before .before .before .before .before .before .before .before .before .before .before .before .before .before .before .before .before .before .before .before .before .before .before .before .before .loop in (
+    let context-of = c .before .before .before .before .before .before .context-of2 in
+    let choice2 = c .before .before .before .before .before .before .before .before .before .before .before .before .before .before .before .before .before .choice2 in
+    let choose = c .before .before .before .before .before .before .before .before .before .before .before .before .before .before .before .before .before .before .before .choose in
+    let event-of = c .before .before .before .before .before .before .before .before .before .before .before .before .before .before .before .before .before .before .before .before .event-of in
+    let counted-by = c .before .before .before .before .before .before .before .before .before .before .before .before .before .before .before .before .before .before .before .before .before .before .counted-by in
+    let states-of = c .before .before .before .before .before .before .before .before .before .before .before .before .before .before .before .before .before .before .before .before .before .before .before .before .states-of in
+    let limit-falls = c .before .before .before .before .before .before .before .before .before .before .before .before .before .before .before .before .before .before .before .before .before .before .before .before .before .limit-falls in
+    let if1 = c .before .before .before .before .before .before .before .before .before .before .before .before .before .before .before .before .before .before .before .before .before .before .before .before .before .before .if1 in
+    let loop = c .before .before .before .before .before .before .before .before .before .before .before .before .before .before .before .before .before .before .before .before .before .before .before .before .before .before .before .loop in (
       stopped2 .ensures ∙ sym (ap (ranFrom _) (ahead-refused (loop .inv .4) (λ _ _ _. refl) (if1 .taken) (sym (rw (states-of .ensures, event-of .ensures) at (choose .ensures)) ∙ choice2 .given .1)
           (sym (rw (limit-falls .ensures, going .ensures counterNum (at-most (loop .s)), states-of .ensures, context-of .ensures, counted-by .ensures) at (after-transition .ensures)) ∙ x .given .1))),
       ap (λ (r : Ran). r .framework .machines) (stopped2 .ensures),
@@ -339,37 +345,37 @@ enum-known-x-2 c = search needs
 
 mul-r2-3 : tie.Need-mul-r2-3 Inv-loop μ-loop
 mul-r2-3 c =
-    let if1 = c .before .before .before .before .before .before .before .before .before .before .before .before .before .before .before .before .before .before .before .before .before .before .before .before .before .if1 in
-    let loop = c .before .before .before .before .before .before .before .before .before .before .before .before .before .before .before .before .before .before .before .before .before .before .before .before .before .before .loop in
+    let if1 = c .before .before .before .before .before .before .before .before .before .before .before .before .before .before .before .before .before .before .before .before .before .before .before .before .before .before .if1 in
+    let loop = c .before .before .before .before .before .before .before .before .before .before .before .before .before .before .before .before .before .before .before .before .before .before .before .before .before .before .before .loop in
     omega (arith, if1 .taken, loop .inv .2 (if1 .taken))
 
 element-set-from-r2-3 : tie.Need-element-set-from-r2-3 Inv-loop μ-loop
 element-set-from-r2-3 c =
-    let if1 = c .before .before .before .before .before .before .before .before .before .before .before .before .before .before .before .before .before .before .before .before .before .before .before .before .before .if1 in
-    let loop = c .before .before .before .before .before .before .before .before .before .before .before .before .before .before .before .before .before .before .before .before .before .before .before .before .before .before .loop in
+    let if1 = c .before .before .before .before .before .before .before .before .before .before .before .before .before .before .before .before .before .before .before .before .before .before .before .before .before .before .if1 in
+    let loop = c .before .before .before .before .before .before .before .before .before .before .before .before .before .before .before .before .before .before .before .before .before .before .before .before .before .before .before .loop in
     omega (arith, if1 .taken, loop .inv .2 (if1 .taken))
 
 mul-actions-2 : tie.Need-mul-actions-2 Inv-loop μ-loop
 mul-actions-2 c =
-    let if1 = c .before .before .before .before .before .before .before .before .before .before .before .before .before .before .before .before .before .before .before .before .before .before .before .before .before .before .if1 in
-    let loop = c .before .before .before .before .before .before .before .before .before .before .before .before .before .before .before .before .before .before .before .before .before .before .before .before .before .before .before .loop in
-    omega (arith, if1 .taken, loop .inv .2 (if1 .taken))
-
-array-set-from-actions-2 : tie.Need-array-set-from-actions-2 Inv-loop μ-loop
-array-set-from-actions-2 c =
-    let if1 = c .before .before .before .before .before .before .before .before .before .before .before .before .before .before .before .before .before .before .before .before .before .before .before .before .before .before .if1 in
-    let loop = c .before .before .before .before .before .before .before .before .before .before .before .before .before .before .before .before .before .before .before .before .before .before .before .before .before .before .before .loop in
-    omega (arith, if1 .taken, loop .inv .2 (if1 .taken))
-
-add-m-4 : tie.Need-add-m-4 Inv-loop μ-loop
-add-m-4 c =
     let if1 = c .before .before .before .before .before .before .before .before .before .before .before .before .before .before .before .before .before .before .before .before .before .before .before .before .before .before .before .if1 in
     let loop = c .before .before .before .before .before .before .before .before .before .before .before .before .before .before .before .before .before .before .before .before .before .before .before .before .before .before .before .before .loop in
     omega (arith, if1 .taken, loop .inv .2 (if1 .taken))
 
+array-set-from-actions-2 : tie.Need-array-set-from-actions-2 Inv-loop μ-loop
+array-set-from-actions-2 c =
+    let if1 = c .before .before .before .before .before .before .before .before .before .before .before .before .before .before .before .before .before .before .before .before .before .before .before .before .before .before .before .if1 in
+    let loop = c .before .before .before .before .before .before .before .before .before .before .before .before .before .before .before .before .before .before .before .before .before .before .before .before .before .before .before .before .loop in
+    omega (arith, if1 .taken, loop .inv .2 (if1 .taken))
+
+add-m-4 : tie.Need-add-m-4 Inv-loop μ-loop
+add-m-4 c =
+    let if1 = c .before .before .before .before .before .before .before .before .before .before .before .before .before .before .before .before .before .before .before .before .before .before .before .before .before .before .before .before .if1 in
+    let loop = c .before .before .before .before .before .before .before .before .before .before .before .before .before .before .before .before .before .before .before .before .before .before .before .before .before .before .before .before .before .loop in
+    omega (arith, if1 .taken, loop .inv .2 (if1 .taken))
+
 loop-less-4 : tie.Need-loop-less-4 Inv-loop μ-loop
 loop-less-4 c =
-    let if1 = c .before .before .before .before .before .before .before .before .before .before .before .before .before .before .before .before .before .before .before .before .before .before .before .before .before .before .before .if1 in
+    let if1 = c .before .before .before .before .before .before .before .before .before .before .before .before .before .before .before .before .before .before .before .before .before .before .before .before .before .before .before .before .if1 in
     omega (arith, if1 .taken)
 
 loop-again-4 : tie.Need-loop-again-4 Inv-loop μ-loop
@@ -377,15 +383,15 @@ loop-again-4 c =
     let x2 = c .before .before .before .before .x2 in
     let after-transition = c .before .before .before .before .before .before .after-transition in
     let going = c .before .before .before .before .before .before .before .going in
-    let context-of = c .before .before .before .before .before .before .before .before .before .before .before .before .context-of in
-    let choice2 = c .before .before .before .before .before .before .before .before .before .before .before .before .before .before .before .before .before .before .choice2 in
-    let choose = c .before .before .before .before .before .before .before .before .before .before .before .before .before .before .before .before .before .before .before .before .choose in
-    let event-of = c .before .before .before .before .before .before .before .before .before .before .before .before .before .before .before .before .before .before .before .before .before .event-of in
-    let counted-by = c .before .before .before .before .before .before .before .before .before .before .before .before .before .before .before .before .before .before .before .before .before .before .before .counted-by in
-    let states-of = c .before .before .before .before .before .before .before .before .before .before .before .before .before .before .before .before .before .before .before .before .before .before .before .before .before .states-of in
-    let limit-falls = c .before .before .before .before .before .before .before .before .before .before .before .before .before .before .before .before .before .before .before .before .before .before .before .before .before .before .limit-falls in
-    let if1 = c .before .before .before .before .before .before .before .before .before .before .before .before .before .before .before .before .before .before .before .before .before .before .before .before .before .before .before .if1 in
-    let loop = c .before .before .before .before .before .before .before .before .before .before .before .before .before .before .before .before .before .before .before .before .before .before .before .before .before .before .before .before .loop in (
+    let context-of = c .before .before .before .before .before .before .before .before .context-of2 in
+    let choice2 = c .before .before .before .before .before .before .before .before .before .before .before .before .before .before .before .before .before .before .before .choice2 in
+    let choose = c .before .before .before .before .before .before .before .before .before .before .before .before .before .before .before .before .before .before .before .before .before .choose in
+    let event-of = c .before .before .before .before .before .before .before .before .before .before .before .before .before .before .before .before .before .before .before .before .before .before .event-of in
+    let counted-by = c .before .before .before .before .before .before .before .before .before .before .before .before .before .before .before .before .before .before .before .before .before .before .before .before .counted-by in
+    let states-of = c .before .before .before .before .before .before .before .before .before .before .before .before .before .before .before .before .before .before .before .before .before .before .before .before .before .before .states-of in
+    let limit-falls = c .before .before .before .before .before .before .before .before .before .before .before .before .before .before .before .before .before .before .before .before .before .before .before .before .before .before .before .limit-falls in
+    let if1 = c .before .before .before .before .before .before .before .before .before .before .before .before .before .before .before .before .before .before .before .before .before .before .before .before .before .before .before .before .if1 in
+    let loop = c .before .before .before .before .before .before .before .before .before .before .before .before .before .before .before .before .before .before .before .before .before .before .before .before .before .before .before .before .before .loop in (
       loop .inv .0,
       loop .inv .1,
       λ h. loop .inv .2 (if1 .taken),
@@ -530,6 +536,7 @@ run-events-spec =
     loop-again-3
     mul-p
     array-copy-out-p
+    context-of-requires-2
     going-requires
     after-transition-requires
     enum-known-x

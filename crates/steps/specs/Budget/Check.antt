@@ -19,7 +19,7 @@ use Rattle.numbers.specs.Positive.{positive-above}
 use Rattle.numbers.specs.Saturating.{saturatingAdd}
 use Rattle.machine.specs.Constants.{machineMax, maxPaddingFrac}
 use Rattle.numbers.specs.Finite.{zeroF}
-use Rattle.steps.specs.Limits.{limitLeft, belowFraction, belowLimitPadding}
+use Rattle.steps.specs.Limits.{limitLeft, machinePaddingFrac, belowFraction, belowLimitPadding}
 use Rattle.steps.specs.Events.{Tables, machineWord}
 use Rattle.steps.specs.Framework.{rowsIn}
 use Rattle.steps.specs.Budget.{allowance, fraction}
@@ -79,7 +79,7 @@ total r = r .counts .«padding_sent» + r .counts .«normal_sent»
 
 module _ (c : Context) (r : MachineRuntime)
     (over : r .counts .«padding_sent» < c .«allowed_padding_packets» → ⊥) where
-  own-stops : ((rest : Bool) → belowFraction (c .«machine_padding_frac») (r .counts .«padding_sent») (r .counts .«normal_sent») rest ≡ false)
+  own-stops : ((rest : Bool) → belowFraction (machinePaddingFrac c) (r .counts .«padding_sent») (r .counts .«normal_sent») rest ≡ false)
       → belowLimitPadding c r ≡ false
   unfolding belowLimitPadding
   own-stops e = rw (le-ltb (r .counts .«padding_sent») (c .«allowed_padding_packets») (omega arith), e _)
@@ -91,7 +91,7 @@ module _ (c : Context) (r : MachineRuntime)
   unfolding belowLimitPadding
   all-stops small some e =
       rw (le-ltb (r .counts .«padding_sent») (c .«allowed_padding_packets») (omega arith))
-      (rest-stops (c .«machine_padding_frac») (r .counts .«padding_sent») (r .counts .«normal_sent») small some _
+      (rest-stops (machinePaddingFrac c) (r .counts .«padding_sent») (r .counts .«normal_sent») small some _
       (e (limitLeft r)))
 
 -- ---- the numbers that a check reads, and what a passed check says of them
@@ -107,7 +107,7 @@ pub record Numbers : Type 0 where
 abbrev pub numbersOf : Context → MachineRuntime → Numbers
 numbersOf c r = record {
   allowed = c .«allowed_padding_packets»;
-  f = c .«machine_padding_frac»;
+  f = machinePaddingFrac c;
   F = c .«max_padding_frac»;
   own = r .counts .«padding_sent»;
   heard = r .counts .«normal_sent»;
@@ -138,7 +138,7 @@ module _ (c : Context) (r : MachineRuntime) (passed : belowLimitPadding c r ≡ 
     | no a ↦ inr (elim (ℕ-discrete (total r) 0) [
       | yes z ↦ inl z
       | no z ↦ inr (
-          below-exactly (c .«machine_padding_frac») (r .counts .«padding_sent») (r .counts .«normal_sent») small z k h
+          below-exactly (machinePaddingFrac c) (r .counts .«padding_sent») (r .counts .«normal_sent») small z k h
           (λ e. stops (own-stops c r a e))
           )
     ])

@@ -18,31 +18,18 @@ add-word-2 c = search needs
 word-requires-2 : tie.Need-word-requires-2
 word-requires-2 c κs = search needs
 
-f64-of-word-requires : tie.Need-f64-of-word-requires
-f64-of-word-requires c κs = search needs
-
 add-word-3 : tie.Need-add-word-3
 add-word-3 c = search needs
 
 word-requires-3 : tie.Need-word-requires-3
 word-requires-3 c κs = search needs
 
-f64-of-word-requires-2 : tie.Need-f64-of-word-requires-2
-f64-of-word-requires-2 c κs = search needs
-
 returns : tie.Need-returns
 returns c =
-    let word3 = c .before .word3 in
-    let f64-of-word = c .before .before .f64-of-word in
-    let word2 = c .before .before .before .word2 in
-    let word = c .before .before .before .before .word in
-    rw (
-      word .ensures,
-      f64-of-word .ensures,
-      word2 .ensures,
-      c .f64-of-word2 .ensures,
-      word3 .ensures,
-    )
+    let word3 = c .word3 in
+    let word2 = c .before .word2 in
+    let word = c .before .before .word in
+    rw (word .ensures, word2 .ensures, word3 .ensures)
 
 pub context-of-spec : {M : Type 1} → statement M
 context-of-spec =
@@ -53,8 +40,6 @@ context-of-spec =
     word-requires
     add-word-2
     word-requires-2
-    f64-of-word-requires
     add-word-3
     word-requires-3
-    f64-of-word-requires-2
     returns)
