@@ -174,10 +174,11 @@ pub enum Verdict {
     Refused(u64),
 }
 
-// A run of events or signals over all machines; after a refusal, all as it was when the run began.
+// A run of events or signals over all machines; after a refusal, all as it was when the run began. The framework stands first,
+// as it does alone: docs/PERFORMANCE.md has what the order saves.
 pub struct Ran {
-    pub verdict: Verdict,
     pub framework: Framework,
+    pub verdict: Verdict,
     pub actions: [TriggerAction; 16],
     pub shared: Shared,
 }
