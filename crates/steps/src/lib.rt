@@ -174,8 +174,7 @@ pub enum Verdict {
     Refused(u64),
 }
 
-// A run of events or signals over all machines; after a refusal, all as it was when the run began. The framework stands first,
-// as it does alone: docs/PERFORMANCE.md has what the order saves.
+// A run of events or signals over all machines; after a refusal, all as it was when the run began. The framework stands first.
 pub struct Ran {
     pub framework: Framework,
     pub verdict: Verdict,
