@@ -174,7 +174,7 @@ pub enum Verdict {
     Refused(u64),
 }
 
-// A run of events or signals over all machines; after a refusal, all as it was when the run began. The framework stands first.
+// A run of events or signals over all machines; after a refusal, all as it was when the run began.
 pub struct Ran {
     pub framework: Framework,
     pub verdict: Verdict,
