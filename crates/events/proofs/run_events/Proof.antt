@@ -212,7 +212,7 @@ loop-again-2 c =
       λ h. loop .inv .2 (if1 .taken),
       loop .inv .3,
       rw (runtime-after .ensures, counted-by .ensures, shared-after .ensures) (ahead-kept (loop .inv .4) (λ _ _ _. refl) (if1 .taken) (sym (rw (states-of .ensures, event-of .ensures) at (choose .ensures)) ∙ choice2 .given .1)
-          (kept-turn counterNum _ _ _ _ _ _ (sym (rw (states-of .ensures, limit-falls .ensures, context-of .ensures, counted-by .ensures) at (short-way .ensures)) ∙ short .given .1))),
+          (kept-turn counterNum _ _ _ _ _ _ (rw (← counted-by .ensures) (sym (rw (states-of .ensures, limit-falls .ensures, context-of .ensures) at (short-way .ensures)) ∙ short .given .1)))),
     )
 
 enum-known-short-2 : tie.Need-enum-known-short-2 Inv-loop μ-loop
@@ -279,7 +279,7 @@ loop-again-3 c =
       λ h. loop .inv .2 (if1 .taken),
       loop .inv .3,
       rw (runtime-after2 .ensures, counted-by .ensures, shared-after2 .ensures) (ahead-done (loop .inv .4) (λ _ _ _. refl) (if1 .taken) (sym (rw (states-of .ensures, event-of .ensures) at (choose .ensures)) ∙ choice2 .given .1)
-          (acted-turn counterNum _ _ _ _ _ _ (sym (rw (states-of .ensures, limit-falls .ensures, context-of .ensures, counted-by .ensures) at (short-way .ensures)) ∙ short2 .given .1))),
+          (acted-turn counterNum _ _ _ _ _ _ (rw (← counted-by .ensures) (sym (rw (states-of .ensures, limit-falls .ensures, context-of .ensures) at (short-way .ensures)) ∙ short2 .given .1)))),
     )
 
 mul-p : tie.Need-mul-p Inv-loop μ-loop
