@@ -169,7 +169,7 @@ impl Case {
         self.per_batch(start)
     }
 
-    /// The same with draws from a source, which the binding asks one by one.
+    /// The same with draws from a source: values are asked one by one where distributions differ.
     pub fn time_source(&self) -> f64 {
         let mut framework = self.ours.clone();
         let mut source = Source { tapes: &self.tapes, chance_at: 0, value_at: self.values_at };
@@ -199,6 +199,10 @@ struct Source<'a> {
 }
 
 impl Draws for Source<'_> {
+    fn word(&mut self) -> u64 {
+        unreachable!("every draw is on a tape");
+    }
+
     fn chance(&mut self) -> f32 {
         self.chance_at += 1;
         self.tapes.chances[self.chance_at - 1]

@@ -1,5 +1,6 @@
 //! A sender in simulated time: two machines, normal packets at random, timers, and draws from a seed.
-//! Prints a line for each action and, at the end, the budgets used.
+//! Prints a line for each action and, at the end, the budgets used. Fails where one is overdrawn, and
+//! where a call is refused for anything but its draws.
 //!
 //! `cargo run --example sender -- [seed] [milliseconds]`
 
@@ -9,18 +10,22 @@ use maybenot_link::dist::{Dist, DistType};
 use maybenot_link::event::Event;
 use maybenot_link::state::{State, Trans};
 use maybenot_link::{
-    Draws, Framework, Invalid, Machine, MachineId, Refusal, Tables, Timer, TriggerAction,
+    Draws, Framework, Invalid, Machine, MachineId, Refused, Tables, Timer, TriggerAction,
     TriggerEvent,
 };
 use std::error::Error;
 use std::hash::{BuildHasher, BuildHasherDefault, DefaultHasher};
+use std::process::ExitCode;
 
 /// The framework's own limits: padding of all packets, blocking of all time.
 const MAX_PADDING_FRAC: f64 = 0.5;
 const MAX_BLOCKING_FRAC: f64 = 0.25;
 
-/// Microseconds between normal packets, on average.
-const GAP: f64 = 1500.0;
+/// Microseconds between normal packets: 1500 on average.
+const GAP: DistType = DistType::Gamma { scale: 1500.0, shape: 1.0 };
+
+/// A batch whose draws are refused is tried so often.
+const TRIES: usize = 10;
 
 /// Pads in bursts: a normal packet starts one, its length is the state's limit, and an internal timer
 /// ends the rest after it.
@@ -79,40 +84,10 @@ struct Source {
     count: u64,
 }
 
-impl Source {
+impl Draws for Source {
     fn word(&mut self) -> u64 {
         self.count += 1;
         BuildHasherDefault::<DefaultHasher>::default().hash_one(&*self)
-    }
-
-    /// From 0 to below 1.
-    fn unit(&mut self) -> f64 {
-        (self.word() >> 11) as f64 / (1u64 << 53) as f64
-    }
-
-    fn exponential(&mut self, mean: f64) -> f64 {
-        -mean * (1.0 - self.unit()).ln()
-    }
-}
-
-impl Draws for Source {
-    fn chance(&mut self) -> f32 {
-        (self.word() >> 40) as f32 / (1u32 << 24) as f32
-    }
-
-    fn value(&mut self, dist: &DistType) -> f64 {
-        match *dist {
-            // the product can round up to high, which is no draw of a Uniform
-            DistType::Uniform { low, high } => loop {
-                let drawn = low + (high - low) * self.unit();
-                if drawn < high {
-                    return drawn;
-                }
-            },
-            // a Gamma of shape 1 is exponential
-            DistType::Gamma { scale, shape: 1.0 } => self.exponential(scale),
-            ref other => unimplemented!("{other} is in no machine of this sender"),
-        }
     }
 }
 
@@ -212,10 +187,10 @@ impl Sender {
             self.blocking = None;
             self.happened.push(TriggerEvent::BlockingEnd);
             let waited = std::mem::take(&mut self.queued);
-            self.happened.extend(std::iter::repeat_n(TriggerEvent::TunnelSent, waited));
+            self.happened.resize(self.happened.len() + waited, TriggerEvent::TunnelSent);
         }
         if self.next_normal <= now {
-            self.next_normal = now + 1 + self.source.exponential(GAP) as u64;
+            self.next_normal = now + 1 + self.source.value(&GAP) as u64;
             self.normal += 1;
             self.happened.push(TriggerEvent::NormalSent);
             self.send(false);
@@ -231,7 +206,7 @@ impl Sender {
             }
             Pending::Blocking { duration, bypass, replace } => {
                 let until = self.time + duration;
-                if self.blocking.is_none_or(|on| replace || on.until < until) {
+                if self.blocking.map_or(true, |on| replace || on.until < until) {
                     self.blocking = Some(Blocking { until, bypass });
                 }
                 self.happened.push(TriggerEvent::BlockingBegin { machine });
@@ -239,25 +214,38 @@ impl Sender {
         }
     }
 
-    /// Hands over what happened, and does what the framework answers.
-    fn batch(&mut self) -> Result<(), Refusal> {
-        let happened = std::mem::take(&mut self.happened);
-        let actions =
-            self.framework.trigger_events(&happened, self.time, &mut self.source)?.to_vec();
-        self.batches += 1;
-        for action in actions {
+    /// Hands over what happened, and does what the framework answers. A refused call has changed
+    /// nothing, so the events stay in the list until a call with them is accepted.
+    fn batch(&mut self) -> Result<(), Refused> {
+        for action in self.trigger()? {
+            println!("{:>9}  {action}", self.time);
             self.act(action);
         }
         Ok(())
     }
 
+    /// The actions to take. A call that is refused for its draws is tried again with fresh ones; any
+    /// other refusal would come again.
+    fn trigger(&mut self) -> Result<Vec<TriggerAction>, Refused> {
+        let mut tries = 1;
+        loop {
+            match self.framework.trigger_events(&self.happened, self.time, &mut self.source) {
+                Ok(actions) => {
+                    self.happened.clear();
+                    self.batches += 1;
+                    return Ok(actions.to_vec());
+                }
+                Err(refused) if refused.is_for_draws() && tries < TRIES => tries += 1,
+                Err(refused) => return Err(refused),
+            }
+        }
+    }
+
     fn act(&mut self, action: TriggerAction) {
         let (now, machine) = (self.time, action.machine());
-        print!("{now:>9}  machine {}  ", machine.into_raw());
         let timers = &mut self.timers[machine.into_raw()];
         match action {
             TriggerAction::Cancel { timer, .. } => {
-                println!("Cancel {timer:?}");
                 if timer != Timer::Internal {
                     timers.action = None;
                 }
@@ -266,18 +254,15 @@ impl Sender {
                 }
             }
             TriggerAction::SendPadding { timeout, bypass, .. } => {
-                println!("SendPadding in {timeout}");
                 timers.action = Some((now + timeout, Pending::Padding { bypass }));
             }
             TriggerAction::BlockOutgoing { timeout, duration, bypass, replace, .. } => {
-                println!("BlockOutgoing in {timeout} for {duration}");
                 let pending = Pending::Blocking { duration, bypass, replace };
                 timers.action = Some((now + timeout, pending));
             }
             TriggerAction::UpdateTimer { duration, replace, .. } => {
-                println!("UpdateTimer to {duration}");
                 let due = now + duration;
-                if timers.internal.is_none_or(|old| replace || old < due) {
+                if timers.internal.map_or(true, |old| replace || old < due) {
                     timers.internal = Some(due);
                     self.happened.push(TriggerEvent::TimerBegin { machine });
                 }
@@ -285,7 +270,7 @@ impl Sender {
         }
     }
 
-    fn run(&mut self, end: u64) -> Result<(), Refusal> {
+    fn run(&mut self, end: u64) -> Result<(), Refused> {
         loop {
             let next = self.next();
             if next >= end {
@@ -302,32 +287,13 @@ impl Sender {
         }
     }
 
-    /// Padding and blocking used, against what the limits allow.
-    fn print_budgets(&self, machines: &[Machine]) {
+    /// Prints padding and blocking used, against what the limits allow; whether none of the padding
+    /// budgets that are proved is overdrawn.
+    fn budgets_kept(&self, machines: &[Machine]) -> bool {
         let padding: u64 = self.padding.iter().sum();
-        let packets = self.normal + padding;
         println!(
             "\n{} microseconds, {} batches, {} normal packets, {padding} padding",
             self.time, self.batches, self.normal
-        );
-        for (k, (machine, &own)) in machines.iter().zip(&self.padding).enumerate() {
-            let (allowed, frac) = (machine.allowed_padding_packets, machine.max_padding_frac);
-            let of = self.normal + own;
-            if frac == 0.0 {
-                println!("machine {k}: {own} padding of {of} packets, no limit");
-                continue;
-            }
-            let within = own <= allowed + 2 || own as f64 - 2.0 < frac * of as f64;
-            println!(
-                "machine {k}: {own} padding of {of} packets, limit {frac} or {allowed} allowed: {}",
-                if within { "within" } else { "OVERDRAWN" }
-            );
-        }
-        let allowed: u64 = machines.iter().map(|m| m.allowed_padding_packets).sum();
-        let most = MAX_PADDING_FRAC * packets as f64 + (allowed + 4 * machines.len() as u64) as f64;
-        println!(
-            "all: {padding} padding of {packets} packets, limit {MAX_PADDING_FRAC}, at most {most}: {}",
-            if padding as f64 <= most { "within" } else { "OVERDRAWN" }
         );
         println!(
             "blocked {} of {} microseconds ({:.3}), limit {MAX_BLOCKING_FRAC}",
@@ -335,16 +301,70 @@ impl Sender {
             self.time,
             self.blocked as f64 / self.time.max(1) as f64
         );
+        let mut kept = true;
+        for (k, machine) in machines.iter().enumerate() {
+            kept &= self.machine_kept(MachineId::from_raw(k), machine);
+        }
+        kept & self.framework_kept(machines, padding)
+    }
+
+    /// At most A + 2 padding packets, or the padding less 2 is below f * the machine's packets.
+    fn machine_kept(&self, id: MachineId, machine: &Machine) -> bool {
+        let own = self.padding[id.into_raw()];
+        let of = self.normal + own;
+        let (allowed, frac) = (machine.allowed_padding_packets, machine.max_padding_frac);
+        if frac == 0.0 {
+            println!("{id}: {own} padding of {of} packets, no limit");
+            return true;
+        }
+        let kept = own <= allowed + 2 || own as f64 - 2.0 < frac * of as f64;
+        let says = verdict(kept);
+        println!("{id}: {own} padding of {of} packets, limit {frac} or {allowed} allowed: {says}");
+        kept
+    }
+
+    /// Padding is at most F * all packets + the sum of allowances + 4 for each machine.
+    fn framework_kept(&self, machines: &[Machine], padding: u64) -> bool {
+        let packets = self.normal + padding;
+        let allowed: u64 = machines.iter().map(|m| m.allowed_padding_packets).sum();
+        let most = MAX_PADDING_FRAC * packets as f64 + (allowed + 4 * machines.len() as u64) as f64;
+        let kept = padding as f64 <= most;
+        println!(
+            "all: {padding} padding of {packets} packets, limit {MAX_PADDING_FRAC}, at most {most}: {}",
+            verdict(kept)
+        );
+        kept
     }
 }
 
-fn main() -> Result<(), Box<dyn Error>> {
+fn verdict(kept: bool) -> &'static str {
+    if kept {
+        "within"
+    } else {
+        "OVERDRAWN"
+    }
+}
+
+fn run() -> Result<(), Box<dyn Error>> {
     let mut args = std::env::args().skip(1).map(|arg| arg.parse::<u64>());
     let seed = args.next().unwrap_or(Ok(1))?;
     let milliseconds = args.next().unwrap_or(Ok(100))?;
     let machines = [padder()?, blocker()?];
     let mut sender = Sender::open(&machines, seed)?;
     sender.run(1000 * milliseconds)?;
-    sender.print_budgets(&machines);
-    Ok(())
+    if sender.budgets_kept(&machines) {
+        Ok(())
+    } else {
+        Err("a padding budget is overdrawn".into())
+    }
+}
+
+fn main() -> ExitCode {
+    match run() {
+        Ok(()) => ExitCode::SUCCESS,
+        Err(error) => {
+            eprintln!("{error}");
+            ExitCode::FAILURE
+        }
+    }
 }

@@ -4,6 +4,7 @@ use crate::dist::Dist;
 use crate::framework::MachineId;
 use crate::machine::Invalid;
 use std::fmt;
+use std::time::Duration;
 
 /// The different types of timers used by a [`Machine`](crate::Machine).
 #[derive(Debug, Clone, Copy, PartialEq, Eq, Hash)]
@@ -16,25 +17,55 @@ pub enum Timer {
     All,
 }
 
+impl fmt::Display for Timer {
+    fn fmt(&self, f: &mut fmt::Formatter<'_>) -> fmt::Result {
+        write!(f, "{self:?}")
+    }
+}
+
 /// An action happens upon transition to a [`State`](crate::state::State). All actions (except
 /// Cancel) can be limited: the limit is the maximum number of times the action is taken upon repeated
 /// transitions to the same state.
 #[derive(Debug, Clone, Copy, PartialEq)]
 pub enum Action {
     /// Cancel a timer.
-    Cancel { timer: Timer },
+    Cancel {
+        /// Which one.
+        timer: Timer,
+    },
     /// Schedule padding to be sent after a timeout.
-    SendPadding { bypass: bool, replace: bool, timeout: Dist, limit: Option<Dist> },
+    SendPadding {
+        /// Send it despite blocking that was set with bypass.
+        bypass: bool,
+        /// A packet already queued may be sent in its place.
+        replace: bool,
+        /// The timeout, in microseconds.
+        timeout: Dist,
+        /// How often, upon repeated transitions.
+        limit: Option<Dist>,
+    },
     /// Schedule blocking of outgoing traffic after a timeout.
     BlockOutgoing {
+        /// Padding with bypass may pass this blocking.
         bypass: bool,
+        /// Its duration replaces that of blocking already on.
         replace: bool,
+        /// The timeout, in microseconds.
         timeout: Dist,
+        /// For how long to block, in microseconds.
         duration: Dist,
+        /// How often, upon repeated transitions.
         limit: Option<Dist>,
     },
     /// Update the timer duration for a machine.
-    UpdateTimer { replace: bool, duration: Dist, limit: Option<Dist> },
+    UpdateTimer {
+        /// The duration replaces that of a running timer.
+        replace: bool,
+        /// The duration, in microseconds.
+        duration: Dist,
+        /// How often, upon repeated transitions.
+        limit: Option<Dist>,
+    },
 }
 
 impl Action {
@@ -61,35 +92,81 @@ impl Action {
     }
 }
 
+/// The flags that are set, each after a comma.
+fn flags(bypass: bool, replace: bool) -> String {
+    [(bypass, ", bypass"), (replace, ", replace")]
+        .map(|(set, name)| if set { name } else { "" })
+        .concat()
+}
+
+/// `SendPadding, timeout (Uniform from 1 to 2, start 0, max 0), bypass`.
 impl fmt::Display for Action {
     fn fmt(&self, f: &mut fmt::Formatter<'_>) -> fmt::Result {
-        write!(f, "{self:#?}")
+        let (name, set) = match *self {
+            Action::Cancel { timer } => return write!(f, "Cancel {timer}"),
+            Action::SendPadding { bypass, replace, .. } => ("SendPadding", flags(bypass, replace)),
+            Action::BlockOutgoing { bypass, replace, .. } => {
+                ("BlockOutgoing", flags(bypass, replace))
+            }
+            Action::UpdateTimer { replace, .. } => ("UpdateTimer", flags(false, replace)),
+        };
+        f.write_str(name)?;
+        for (dist, field) in self.dists().iter().zip(["timeout", "duration", "limit"]) {
+            if let Some(dist) = dist {
+                write!(f, ", {field} ({dist})")?;
+            }
+        }
+        f.write_str(&set)
     }
 }
 
 /// The action to be taken by the sender.
-#[derive(Debug, Clone, Copy, PartialEq, Eq)]
+#[derive(Debug, Clone, Copy, PartialEq, Eq, Hash)]
 pub enum TriggerAction {
-    /// Cancel the timers of a machine that `timer` names. This causes no `TimerEnd`.
-    Cancel { machine: MachineId, timer: Timer },
+    /// Cancel the timers of a machine. This causes no `TimerEnd`.
+    Cancel {
+        /// The machine whose action this is.
+        machine: MachineId,
+        /// Which timers.
+        timer: Timer,
+    },
     /// Send padding after the timeout, with a `PaddingSent` of this machine when it is queued. It
     /// replaces the machine's pending SendPadding or BlockOutgoing.
-    ///
-    /// bypass: the padding is sent despite blocking, if that blocking was set with bypass. replace: a
-    /// packet already queued may be sent in its place.
-    SendPadding { timeout: u64, bypass: bool, replace: bool, machine: MachineId },
+    SendPadding {
+        /// The timeout, in microseconds.
+        timeout: u64,
+        /// The padding is sent despite blocking, if that blocking was set with bypass.
+        bypass: bool,
+        /// A packet already queued may be sent in its place.
+        replace: bool,
+        /// The machine whose action this is.
+        machine: MachineId,
+    },
     /// Block outgoing traffic after the timeout for the duration, with a `BlockingBegin` of this
     /// machine when the timeout expires. It replaces the machine's pending SendPadding or
     /// BlockOutgoing.
-    ///
-    /// bypass: padding with bypass may pass this blocking. replace: the duration replaces that of
-    /// blocking already on; else the longer of the two holds.
-    BlockOutgoing { timeout: u64, duration: u64, bypass: bool, replace: bool, machine: MachineId },
+    BlockOutgoing {
+        /// The timeout, in microseconds.
+        timeout: u64,
+        /// For how long to block, in microseconds.
+        duration: u64,
+        /// Padding with bypass may pass this blocking.
+        bypass: bool,
+        /// The duration replaces that of blocking already on; else the longer of the two holds.
+        replace: bool,
+        /// The machine whose action this is.
+        machine: MachineId,
+    },
     /// Update the machine's internal timer, with a `TimerBegin` when its end changes and a `TimerEnd`
     /// when it expires.
-    ///
-    /// replace: the duration replaces that of a running timer; else the longer of the two holds.
-    UpdateTimer { duration: u64, replace: bool, machine: MachineId },
+    UpdateTimer {
+        /// The duration, in microseconds.
+        duration: u64,
+        /// The duration replaces that of a running timer; else the longer of the two holds.
+        replace: bool,
+        /// The machine whose action this is.
+        machine: MachineId,
+    },
 }
 
 impl TriggerAction {
@@ -100,6 +177,36 @@ impl TriggerAction {
             | TriggerAction::SendPadding { machine, .. }
             | TriggerAction::BlockOutgoing { machine, .. }
             | TriggerAction::UpdateTimer { machine, .. } => machine,
+        }
+    }
+
+    /// After how long the action is taken: of SendPadding and BlockOutgoing.
+    ///
+    /// ```
+    /// use maybenot_link::{MachineId, TriggerAction};
+    /// use std::time::Duration;
+    ///
+    /// let machine = MachineId::from_raw(0);
+    /// let (timeout, bypass, replace) = (1500, true, false);
+    /// let action = TriggerAction::SendPadding { timeout, bypass, replace, machine };
+    /// assert_eq!(action.timeout(), Some(Duration::from_micros(1500)));
+    /// assert_eq!(action.duration(), None);
+    /// assert_eq!(action.to_string(), "SendPadding in 1500 us, bypass, machine 0");
+    /// ```
+    pub fn timeout(&self) -> Option<Duration> {
+        match *self {
+            TriggerAction::SendPadding { timeout, .. }
+            | TriggerAction::BlockOutgoing { timeout, .. } => Some(Duration::from_micros(timeout)),
+            _ => None,
+        }
+    }
+
+    /// For how long: of BlockOutgoing and UpdateTimer.
+    pub fn duration(&self) -> Option<Duration> {
+        match *self {
+            TriggerAction::BlockOutgoing { duration, .. }
+            | TriggerAction::UpdateTimer { duration, .. } => Some(Duration::from_micros(duration)),
+            _ => None,
         }
     }
 
@@ -126,8 +233,22 @@ impl TriggerAction {
     }
 }
 
+/// `SendPadding in 10 us, bypass, machine 0`.
 impl fmt::Display for TriggerAction {
     fn fmt(&self, f: &mut fmt::Formatter<'_>) -> fmt::Result {
-        write!(f, "{self:#?}")
+        match *self {
+            TriggerAction::Cancel { timer, .. } => write!(f, "Cancel {timer}")?,
+            TriggerAction::SendPadding { timeout, bypass, replace, .. } => {
+                write!(f, "SendPadding in {timeout} us{}", flags(bypass, replace))?
+            }
+            TriggerAction::BlockOutgoing { timeout, duration, bypass, replace, .. } => {
+                let flags = flags(bypass, replace);
+                write!(f, "BlockOutgoing in {timeout} us for {duration} us{flags}")?
+            }
+            TriggerAction::UpdateTimer { duration, replace, .. } => {
+                write!(f, "UpdateTimer to {duration} us{}", flags(false, replace))?
+            }
+        }
+        write!(f, ", {}", self.machine())
     }
 }

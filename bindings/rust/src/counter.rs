@@ -2,6 +2,7 @@
 
 use crate::dist::Dist;
 use crate::machine::Invalid;
+use std::fmt;
 
 /// The operation applied to one of a machine's counters upon transition to a state.
 #[derive(Debug, Clone, Copy, PartialEq, Eq, Hash)]
@@ -12,6 +13,12 @@ pub enum Operation {
     Decrement,
     /// Replace the current value of the counter.
     Set,
+}
+
+impl fmt::Display for Operation {
+    fn fmt(&self, f: &mut fmt::Formatter<'_>) -> fmt::Result {
+        write!(f, "{self:?}")
+    }
 }
 
 /// How one of a machine's counters is updated upon transition to a state: by 1, by the other counter's
@@ -45,5 +52,18 @@ impl Counter {
     /// Validate the distribution, under `copy` too.
     pub fn validate(&self) -> Result<(), Invalid> {
         self.dist.map_or(Ok(()), |dist| dist.validate())
+    }
+}
+
+/// `Decrement by 1`, `Set to (Uniform from 1 to 2, start 0, max 0)`.
+impl fmt::Display for Counter {
+    fn fmt(&self, f: &mut fmt::Formatter<'_>) -> fmt::Result {
+        let by = if self.operation == Operation::Set { "to" } else { "by" };
+        write!(f, "{} {by} ", self.operation)?;
+        match self.dist {
+            _ if self.copy => f.write_str("the other counter"),
+            Some(dist) => write!(f, "({dist})"),
+            None => f.write_str("1"),
+        }
     }
 }

@@ -1,15 +1,41 @@
 //! The sender's side of the draws.
 
-use crate::dist::DistType;
+use crate::dist::{Dist, DistType};
+use crate::refusal::{BadDraw, Refused};
+use crate::sampling;
 
 /// Where the draws come from: the sender's own random numbers. The library draws none.
 ///
-/// With the crates rand and rand_distr, where Maybenot gets its draws from:
+/// A generator of random words is enough. The defaults work out every draw from words, and none of
+/// these is ever refused, whatever the words are:
+///
+/// ```
+/// use maybenot_link::{dist::DistType, Draws};
+///
+/// struct SplitMix(u64);
+///
+/// impl Draws for SplitMix {
+///     fn word(&mut self) -> u64 {
+///         self.0 = self.0.wrapping_add(0x9e37_79b9_7f4a_7c15);
+///         let z = (self.0 ^ (self.0 >> 30)).wrapping_mul(0xbf58_476d_1ce4_e5b9);
+///         let z = (z ^ (z >> 27)).wrapping_mul(0x94d0_49bb_1331_11eb);
+///         z ^ (z >> 31)
+///     }
+/// }
+///
+/// let mut source = SplitMix(1);
+/// assert!((0.0..1.0).contains(&source.chance()));
+/// let timeout = DistType::Uniform { low: 10.0, high: 20.0 };
+/// assert!((10.0..20.0).contains(&source.value(&timeout)));
+/// ```
+///
+/// A sender with the crates rand and rand_distr, where Maybenot gets its draws from, overrides `value`,
+/// and `chance` where it wants rand's own:
 ///
 /// ```text
 /// impl<R: rand::Rng> Draws for Sampler<R> {
-///     fn chance(&mut self) -> f32 {
-///         self.0.random_range(0.0..1.0)
+///     fn word(&mut self) -> u64 {
+///         self.0.next_u64()
 ///     }
 ///
 ///     fn value(&mut self, dist: &DistType) -> f64 {
@@ -22,20 +48,90 @@ use crate::dist::DistType;
 /// }
 /// ```
 pub trait Draws {
-    /// A draw for the choice of a transition, 0 <= c < 1.
-    fn chance(&mut self) -> f32;
+    /// The next random word: each of its 64 bits is 0 or 1 with the same probability.
+    fn word(&mut self) -> u64;
+
+    /// A draw for the choice of a transition, 0 <= c < 1. By default the top 24 bits of a word over
+    /// 2^24.
+    fn chance(&mut self) -> f32 {
+        sampling::chance(self.word())
+    }
 
     /// A draw of this distribution, before start and max: for a Uniform low <= v < high, for any other
-    /// type whatever the sender draws for it.
-    fn value(&mut self, dist: &DistType) -> f64;
+    /// type whatever the sender draws for it. A NaN and an infinity become 0.
+    ///
+    /// By default a Uniform is low + (high - low) * u, with u the top 53 bits of a word over 2^53; where
+    /// that rounds up to high the next word is tried, and low is taken after 64 of them. The other
+    /// types are sampled from words with their parameters as in rand_distr, and
+    /// [`Outside`](DistType::Outside) gives 0: whoever has tables with such distributions overrides
+    /// this function.
+    fn value(&mut self, dist: &DistType) -> f64 {
+        sampling::value(dist, &mut || self.word())
+    }
 }
 
 impl<D: Draws + ?Sized> Draws for &mut D {
+    fn word(&mut self) -> u64 {
+        (**self).word()
+    }
+
     fn chance(&mut self) -> f32 {
         (**self).chance()
     }
 
     fn value(&mut self, dist: &DistType) -> f64 {
         (**self).value(dist)
+    }
+}
+
+/// Whether the library takes this chance draw.
+pub(crate) fn is_chance(drawn: f32) -> bool {
+    (0.0..1.0).contains(&drawn)
+}
+
+/// The value, refused where the distribution does not take it.
+pub(crate) fn checked(dist: &Dist, drawn: f64) -> Result<f64, Refused> {
+    if dist.dist.takes(drawn) {
+        Ok(drawn)
+    } else {
+        Err(BadDraw::Value { dist: *dist, drawn }.into())
+    }
+}
+
+/// Draws that were taken ahead from a source, and that no call has used yet.
+#[derive(Debug, Default)]
+pub(crate) struct Store {
+    pub(crate) chances: Vec<f32>,
+    pub(crate) values: Vec<f64>,
+}
+
+impl Store {
+    /// Draws until there are so many chances.
+    pub(crate) fn fill_chances(
+        &mut self,
+        most: usize,
+        draws: &mut impl Draws,
+    ) -> Result<(), Refused> {
+        while self.chances.len() < most {
+            let drawn = draws.chance();
+            if !is_chance(drawn) {
+                return Err(BadDraw::Chance { drawn }.into());
+            }
+            self.chances.push(drawn);
+        }
+        Ok(())
+    }
+
+    /// Draws until there are so many values of this distribution, the only one of the tables.
+    pub(crate) fn fill_values(
+        &mut self,
+        most: usize,
+        dist: &Dist,
+        draws: &mut impl Draws,
+    ) -> Result<(), Refused> {
+        while self.values.len() < most {
+            self.values.push(checked(dist, draws.value(&dist.dist))?);
+        }
+        Ok(())
     }
 }

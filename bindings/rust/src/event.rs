@@ -86,18 +86,30 @@ pub enum TriggerEvent {
     NormalSent,
     /// Sent a padding packet: once for each, as soon as it is put on a queue. It spends the
     /// [`SendPadding`](crate::TriggerAction::SendPadding) that its machine had returned.
-    PaddingSent { machine: MachineId },
+    PaddingSent {
+        /// The machine whose padding it is.
+        machine: MachineId,
+    },
     /// Sent a packet of any type in the tunnel, after its `NormalSent` or `PaddingSent`.
     TunnelSent,
     /// The action timer of a [`BlockOutgoing`](crate::TriggerAction::BlockOutgoing) expired, whether
     /// or not blocking was adjusted.
-    BlockingBegin { machine: MachineId },
+    BlockingBegin {
+        /// The machine whose action it is.
+        machine: MachineId,
+    },
     /// Blocking of outgoing traffic has stopped.
     BlockingEnd,
     /// A machine's internal timer started, or was changed.
-    TimerBegin { machine: MachineId },
+    TimerBegin {
+        /// The machine whose timer it is.
+        machine: MachineId,
+    },
     /// A machine's internal timer expired (not: was cancelled).
-    TimerEnd { machine: MachineId },
+    TimerEnd {
+        /// The machine whose timer it is.
+        machine: MachineId,
+    },
 }
 
 impl TriggerEvent {
@@ -120,7 +132,22 @@ impl TriggerEvent {
 
     /// Checks if the [`TriggerEvent`] is a particular [`Event`].
     pub fn is_event(&self, e: Event) -> bool {
-        e == match self {
+        e == self.event()
+    }
+
+    /// The machine that the event is of, if it is of one.
+    pub fn machine(&self) -> Option<MachineId> {
+        match *self {
+            TriggerEvent::PaddingSent { machine }
+            | TriggerEvent::BlockingBegin { machine }
+            | TriggerEvent::TimerBegin { machine }
+            | TriggerEvent::TimerEnd { machine } => Some(machine),
+            _ => None,
+        }
+    }
+
+    fn event(&self) -> Event {
+        match self {
             TriggerEvent::NormalRecv => Event::NormalRecv,
             TriggerEvent::PaddingRecv => Event::PaddingRecv,
             TriggerEvent::TunnelRecv => Event::TunnelRecv,
@@ -135,19 +162,10 @@ impl TriggerEvent {
     }
 }
 
+/// `PaddingSent machine 0`.
 impl fmt::Display for TriggerEvent {
     fn fmt(&self, f: &mut fmt::Formatter<'_>) -> fmt::Result {
-        f.write_str(match self {
-            TriggerEvent::NormalRecv => "rn",
-            TriggerEvent::PaddingRecv => "rp",
-            TriggerEvent::TunnelRecv => "rt",
-            TriggerEvent::NormalSent => "sn",
-            TriggerEvent::PaddingSent { .. } => "sp",
-            TriggerEvent::TunnelSent => "st",
-            TriggerEvent::BlockingBegin { .. } => "bb",
-            TriggerEvent::BlockingEnd => "be",
-            TriggerEvent::TimerBegin { .. } => "tb",
-            TriggerEvent::TimerEnd { .. } => "te",
-        })
+        write!(f, "{}", self.event())?;
+        self.machine().map_or(Ok(()), |machine| write!(f, " {machine}"))
     }
 }

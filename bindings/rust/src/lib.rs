@@ -7,7 +7,7 @@
 //! - times, timeouts and durations are `u64` microseconds;
 //! - random numbers are the sender's: it lends them as two tapes ([`Framework::batch`]) or as a source
 //!   ([`Draws`], [`Framework::trigger_events`]);
-//! - a call that does not fit is refused with a number and changes nothing ([`Refusal`]).
+//! - a call that does not fit is refused with a number and changes nothing ([`Refused`]).
 //!
 //! # The smallest machine that pads
 //!
@@ -45,67 +45,64 @@
 //!
 //! # Draws from a source
 //!
-//! The source here is a small generator; a sender puts its own behind the same two functions.
+//! The source here is a small generator; a sender puts its own behind the same function. [`Draws`] says
+//! how draws are worked out from its words, and how a sender with rand_distr takes its own.
 //!
 //! ```
 //! use maybenot_link::action::Action;
 //! use maybenot_link::dist::{Dist, DistType};
 //! use maybenot_link::event::Event;
 //! use maybenot_link::state::{State, Trans};
-//! use maybenot_link::{Draws, Framework, Machine, Tables, TriggerAction, TriggerEvent};
+//! use maybenot_link::{Draws, Framework, Machine, Tables, TriggerEvent};
 //!
-//! struct Lehmer(u64);
+//! struct Xorshift(u64);
 //!
-//! impl Lehmer {
-//!     fn below_one(&mut self) -> f64 {
-//!         self.0 = self.0 * 48271 % 0x7fff_ffff;
-//!         self.0 as f64 / 0x7fff_ffff as f64
+//! impl Draws for Xorshift {
+//!     fn word(&mut self) -> u64 {
+//!         self.0 ^= self.0 >> 12;
+//!         self.0 ^= self.0 << 25;
+//!         self.0 ^= self.0 >> 27;
+//!         self.0.wrapping_mul(0x2545_f491_4f6c_dd1d)
 //!     }
 //! }
 //!
-//! impl Draws for Lehmer {
-//!     fn chance(&mut self) -> f32 {
-//!         (self.below_one() * 16777216.0).floor() as f32 / 16777216.0
-//!     }
-//!
-//!     fn value(&mut self, dist: &DistType) -> f64 {
-//!         match *dist {
-//!             DistType::Uniform { low, high } => low + (high - low) * self.below_one(),
-//!             // exponential in place of what the sender would draw here
-//!             _ => -1000.0 * (1.0 - self.below_one()).ln(),
-//!         }
-//!     }
-//! }
-//!
-//! // blocks for 50 to 100 after a timeout that the sender draws
+//! // blocks for 50 to 100 after a timeout of 1000 on average
 //! let state = State::new([(Event::NormalSent, vec![Trans(0, 1.0)])]).with_action(
 //!     Action::BlockOutgoing {
 //!         bypass: false,
 //!         replace: true,
-//!         timeout: Dist::new(DistType::Gamma { scale: 1000.0, shape: 1.0 }, 0.0, 2000.0),
+//!         timeout: Dist::new(DistType::Gamma { scale: 500.0, shape: 2.0 }, 0.0, 9000.0),
 //!         duration: Dist::uniform(50.0, 100.0),
 //!         limit: None,
 //!     },
 //! );
 //! let tables = Tables::new(&[Machine::new(0, 0.0, 0, 0.0, vec![state])?])?;
 //!
-//! let mut source = Lehmer(7);
+//! let mut source = Xorshift(7);
 //! let mut framework = Framework::open(&tables, 0.0, 0.0, 0, &mut source)?;
-//! let actions = framework.trigger_events(&[TriggerEvent::NormalSent], 5, &mut source)?;
-//! let TriggerAction::BlockOutgoing { timeout, duration, .. } = actions[0] else {
-//!     panic!("{actions:?}");
-//! };
-//! assert!(timeout <= 2000);
-//! assert!((50..=100).contains(&duration));
+//! for action in framework.trigger_events(&[TriggerEvent::NormalSent], 5, &mut source)? {
+//!     println!("{action}"); // BlockOutgoing in 1298 us for 68 us, replace, machine 0
+//! #   assert_eq!(action.to_string(), "BlockOutgoing in 1298 us for 68 us, replace, machine 0");
+//! }
 //! # Ok::<(), Box<dyn std::error::Error>>(())
 //! ```
+//!
+//! # After a refusal
+//!
+//! A call that was refused has changed nothing, so its events have not happened for the framework: the
+//! sender keeps them. Where the draws were refused ([`Refused::is_for_draws`]) it makes the same call
+//! again with fresh draws. Any other refusal comes again however often the call is made: it says what
+//! is wrong with the tables, the framework or the program.
 
 #![warn(missing_debug_implementations)]
+#![deny(missing_docs)]
 
 mod asking;
 mod draws;
 mod framework;
 mod refusal;
+mod rows;
+mod sampling;
 mod tables;
 
 pub mod action;
@@ -116,11 +113,13 @@ pub mod event;
 pub mod machine;
 pub mod state;
 pub mod sys;
+pub mod time;
 
 pub use action::{Timer, TriggerAction};
 pub use draws::Draws;
 pub use event::TriggerEvent;
 pub use framework::{Framework, MachineId, Used};
 pub use machine::{Invalid, Machine};
-pub use refusal::Refusal;
+pub use refusal::{BadDraw, Refusal, Refused};
 pub use tables::Tables;
+pub use time::Clock;

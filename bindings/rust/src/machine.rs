@@ -77,7 +77,7 @@ impl Machine {
 }
 
 /// Where in the machines something is; what is not named does not matter.
-#[derive(Debug, Clone, Copy, Default, PartialEq, Eq)]
+#[derive(Debug, Clone, Copy, Default, PartialEq, Eq, Hash)]
 pub struct Place {
     /// The machine's number.
     pub machine: Option<usize>,
@@ -92,9 +92,11 @@ pub struct Place {
 }
 
 /// What is invalid in a machine, where, and how the library would refuse it.
-#[derive(Debug, Clone, PartialEq)]
+#[derive(Debug, Clone, PartialEq, Eq, Hash)]
 pub struct Invalid {
+    /// How the library would refuse it.
     pub refusal: Refusal,
+    /// Where it is.
     pub place: Place,
     /// What was found there.
     pub found: String,

@@ -1,5 +1,6 @@
 //! Why a call was refused.
 
+use crate::dist::{Dist, Short};
 use std::fmt;
 
 macro_rules! refusals {
@@ -29,6 +30,12 @@ macro_rules! refusals {
                     $(Refusal::$name => $number,)*
                     Refusal::Other(number) => number,
                 }
+            }
+
+            /// Whether the draws are what was refused (16, 17): the same call may be tried again with
+            /// fresh ones.
+            pub fn is_for_draws(self) -> bool {
+                matches!(self, Refusal::DrawsUsedUp | Refusal::DrawOutOfRange)
             }
 
             fn says(self) -> &'static str {
@@ -71,3 +78,90 @@ impl fmt::Display for Refusal {
 }
 
 impl std::error::Error for Refusal {}
+
+/// A draw that is out of the range that it was asked for.
+#[derive(Debug, Clone, Copy, PartialEq)]
+pub enum BadDraw {
+    /// A draw for the choice of a transition that is not 0 <= c < 1.
+    Chance {
+        /// What was drawn.
+        drawn: f32,
+    },
+    /// A value for a Uniform that is not low <= v < high.
+    Value {
+        /// The distribution that asked for it.
+        dist: Dist,
+        /// What was drawn.
+        drawn: f64,
+    },
+}
+
+impl fmt::Display for BadDraw {
+    fn fmt(&self, f: &mut fmt::Formatter<'_>) -> fmt::Result {
+        match *self {
+            BadDraw::Chance { drawn } => write!(f, "the chance {}", Short(drawn)),
+            BadDraw::Value { dist, drawn } => write!(f, "the value {} of {dist}", Short(drawn)),
+        }
+    }
+}
+
+/// A call that was refused: why, and for which draw where it was for one. It has changed nothing.
+///
+/// ```
+/// use maybenot_link::{BadDraw, Refusal, Refused};
+/// let refused = Refused::from(BadDraw::Chance { drawn: 1.5 });
+/// assert_eq!(refused, Refusal::DrawOutOfRange);
+/// assert_eq!(
+///     refused.to_string(),
+///     "refused as 17: a draw is out of the range that it was asked for: the chance 1.5"
+/// );
+/// ```
+#[derive(Debug, Clone, Copy, PartialEq)]
+pub struct Refused {
+    /// Why.
+    pub refusal: Refusal,
+    /// The draw that was refused, with [`Refusal::DrawOutOfRange`] alone.
+    pub draw: Option<BadDraw>,
+}
+
+impl Refused {
+    /// The number of the refusal, as the library gives it.
+    pub fn number(&self) -> u64 {
+        self.refusal.number()
+    }
+
+    /// Whether the draws are what was refused (16, 17): the same call may be tried again with fresh
+    /// ones.
+    pub fn is_for_draws(&self) -> bool {
+        self.refusal.is_for_draws()
+    }
+}
+
+impl From<Refusal> for Refused {
+    fn from(refusal: Refusal) -> Self {
+        Refused { refusal, draw: None }
+    }
+}
+
+impl From<BadDraw> for Refused {
+    fn from(draw: BadDraw) -> Self {
+        Refused { refusal: Refusal::DrawOutOfRange, draw: Some(draw) }
+    }
+}
+
+impl PartialEq<Refusal> for Refused {
+    fn eq(&self, refusal: &Refusal) -> bool {
+        self.refusal == *refusal
+    }
+}
+
+impl fmt::Display for Refused {
+    fn fmt(&self, f: &mut fmt::Formatter<'_>) -> fmt::Result {
+        match &self.draw {
+            None => write!(f, "{}", self.refusal),
+            Some(draw) => write!(f, "{}: {draw}", self.refusal),
+        }
+    }
+}
+
+impl std::error::Error for Refused {}

@@ -3,13 +3,32 @@
 use crate::action::Action;
 use crate::constants::{STATE_END, STATE_SIGNAL};
 use crate::counter::Counter;
+use crate::dist::Short;
 use crate::event::{Event, EVENT_NUM};
 use crate::machine::{Invalid, Place};
 use crate::refusal::Refusal;
+use std::fmt;
 
 /// A state index and probability for a transition.
 #[derive(Debug, Clone, Copy, PartialEq)]
-pub struct Trans(pub usize, pub f32);
+pub struct Trans(
+    /// The number of the state, or [`STATE_END`] or [`STATE_SIGNAL`].
+    pub usize,
+    /// The probability.
+    pub f32,
+);
+
+/// `to state 1 with 0.5`.
+impl fmt::Display for Trans {
+    fn fmt(&self, f: &mut fmt::Formatter<'_>) -> fmt::Result {
+        match self.0 {
+            STATE_END => f.write_str("to the end")?,
+            STATE_SIGNAL => f.write_str("to a signal")?,
+            state => write!(f, "to state {state}")?,
+        }
+        write!(f, " with {}", Short(self.1))
+    }
+}
 
 /// A state as part of a [`Machine`](crate::Machine).
 #[derive(Debug, Clone, Default, PartialEq)]

@@ -7,6 +7,9 @@
 
 use std::mem::{offset_of, size_of};
 
+/// The version of the interface that this binding is written for. The archive's function of that name
+/// answers it, and an archive of another version does not link.
+pub const INTERFACE: u64 = 1;
 /// At most so many machines.
 pub const MAX_MACHINES: usize = 16;
 /// Words of a row of the machine table.
@@ -24,16 +27,26 @@ pub const FRAMEWORK_WORDS: usize = 11 + 9 * MAX_MACHINES;
 
 /// One machine's state.
 #[repr(C)]
-#[derive(Debug, Clone, Copy, PartialEq)]
+#[derive(Debug, Clone, Copy, PartialEq, Eq, Hash)]
 pub struct MachineRuntime {
+    /// The state it is in; [`STATE_END`](crate::constants::STATE_END) where it has ended.
     pub current_state: u64,
+    /// How often the state's action may still be taken.
     pub state_limit: u64,
+    /// Padding packets of this machine.
     pub padding_sent: u64,
+    /// Normal packets since the machine started.
     pub normal_sent: u64,
+    /// Microseconds of blocking since the machine started, whoever asked for it, without what is going
+    /// on.
     pub blocking_duration: u64,
+    /// The time at which it started.
     pub machine_start: u64,
+    /// The microseconds of blocking before other limits apply.
     pub allowed_blocked_microsec: u64,
+    /// Counter A.
     pub counter_a: u64,
+    /// Counter B.
     pub counter_b: u64,
 }
 
@@ -41,17 +54,27 @@ pub struct MachineRuntime {
 #[repr(C)]
 #[derive(Debug, Clone, Copy, PartialEq)]
 pub struct Framework {
+    /// A machine's state, for as many as there are.
     pub runtime: [MachineRuntime; MAX_MACHINES],
+    /// The number of machines.
     pub machines: u64,
+    /// The time of the last accepted call.
     pub current_time: u64,
     /// 0 none, 1 all machines, 2 + m all but machine m.
     pub signal_pending: u64,
+    /// The maximum fraction of padding packets over all machines; no limit where it is 0.
     pub max_padding_frac: f64,
+    /// The maximum fraction of blocked time over all machines; no limit where it is 0.
     pub max_blocking_frac: f64,
+    /// The time of the opening.
     pub framework_start: u64,
+    /// Normal packets since the opening.
     pub normal_sent_packets: u64,
+    /// Padding packets since the opening, of unknown machines too.
     pub padding_sent_packets: u64,
+    /// Microseconds of blocking, without what is going on.
     pub blocking_duration: u64,
+    /// The time at which blocking last began; that of the opening before the first.
     pub blocking_started: u64,
     /// On where it is not 0.
     pub blocking_active: u64,
@@ -61,28 +84,38 @@ pub struct Framework {
 #[repr(C)]
 #[derive(Debug, Clone, Copy, PartialEq)]
 pub struct Opened {
+    /// The refusal, or 0.
     pub refusal: u64,
+    /// How many chance draws were taken: none.
     pub chance_used: u64,
+    /// How many value draws were taken.
     pub value_used: u64,
+    /// The framework; all 0 where the call was refused.
     pub framework: Framework,
 }
 
 /// The answer of a batch.
 #[repr(C)]
-#[derive(Debug, Clone, Copy, PartialEq, Eq)]
+#[derive(Debug, Clone, Copy, PartialEq, Eq, Hash)]
 pub struct Reply {
+    /// The refusal, or 0.
     pub refusal: u64,
     /// How many rows were written.
     pub actions: u64,
+    /// How many chance draws were taken.
     pub chance_used: u64,
+    /// How many value draws were taken.
     pub value_used: u64,
 }
 
 /// The three tables, lent.
 #[derive(Debug, Clone, Copy)]
 pub struct Words<'a> {
+    /// The machine table, [`MACHINE_WORDS`] a row.
     pub machines: &'a [u64],
+    /// The state table, [`STATE_WORDS`] a row.
     pub states: &'a [u64],
+    /// The transition table, [`TRANSITION_WORDS`] a row.
     pub transitions: &'a [u64],
 }
 
@@ -181,7 +214,19 @@ mod c {
         ) -> Reply;
 
         pub fn maybenot_all_machines_ended(framework: *const Framework) -> bool;
+
+        pub fn maybenot_interface_1() -> u64;
     }
+}
+
+/// Kept in every program, so that an archive of another version does not link, whoever calls what.
+#[used]
+static LINKED: unsafe extern "C" fn() -> u64 = c::maybenot_interface_1;
+
+/// The version of the interface, as the archive answers it: [`INTERFACE`].
+pub fn interface() -> u64 {
+    // SAFETY: the function reads nothing and answers a number.
+    unsafe { c::maybenot_interface_1() }
 }
 
 /// Opens a framework with the machines of these tables.

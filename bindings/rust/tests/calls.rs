@@ -33,6 +33,11 @@ fn refused(
 }
 
 #[test]
+fn the_archive_is_of_this_interface() {
+    assert_eq!(sys::interface(), sys::INTERFACE);
+}
+
+#[test]
 fn the_worked_example() {
     let tables = Tables::new(&[pads()]).unwrap();
     let (mut framework, used) = Framework::open_with(&tables, 0.0, 0.0, 0, &[]).unwrap();
@@ -149,6 +154,22 @@ fn a_count_above_16_is_read_as_16() {
     assert!(sys::all_machines_ended(&framework));
     framework.runtime[15].current_state = 0;
     assert!(!sys::all_machines_ended(&framework));
+}
+
+/// The header says each refusal in the same words.
+#[test]
+fn refusals_read_as_in_the_header() {
+    let header = include_str!("../../c/maybenot.h");
+    let mut seen = 0;
+    for line in header.lines().filter_map(|line| line.trim().strip_prefix("case ")) {
+        let (number, text) = line.split_once(": return ").expect("a number and a text");
+        let Some(refusal) = Refusal::from_number(number.parse().unwrap()) else {
+            continue;
+        };
+        assert_eq!(text, format!("{:?};", refusal.to_string().split_once(": ").unwrap().1));
+        seen += 1;
+    }
+    assert_eq!(seen, 20);
 }
 
 #[test]

@@ -3,37 +3,35 @@
 
 mod common;
 
-use common::{any_dist, events, machines, Random, Source};
+use common::{any_dist, drawing, events, free, machines, Random, Recorded, Source, Words};
 use maybenot_link::action::Action;
 use maybenot_link::dist::{Dist, DistType};
 use maybenot_link::event::Event;
 use maybenot_link::state::{State, Trans};
-use maybenot_link::{Draws, Framework, Machine, Refusal, Tables, TriggerAction, TriggerEvent};
+use maybenot_link::{Draws, Framework, Machine, Tables, TriggerAction, TriggerEvent};
+use std::collections::HashSet;
 
-/// Hands draws on and keeps them.
-struct Recorded<'a> {
-    source: &'a mut dyn Draws,
-    chances: Vec<f32>,
-    values: Vec<f64>,
-    asked: Vec<DistType>,
-}
-
-impl<'a> Recorded<'a> {
-    fn new(source: &'a mut dyn Draws) -> Self {
-        Recorded { source, chances: Vec::new(), values: Vec::new(), asked: Vec::new() }
-    }
-}
-
-impl Draws for Recorded<'_> {
-    fn chance(&mut self) -> f32 {
-        self.chances.push(self.source.chance());
-        self.chances[self.chances.len() - 1]
-    }
-
-    fn value(&mut self, dist: &DistType) -> f64 {
-        self.values.push(self.source.value(dist));
-        self.asked.push(*dist);
-        self.values[self.values.len() - 1]
+/// A run with draws from a source, and beside it the same draws on tapes. `ahead`: values are drawn
+/// before they are needed.
+fn compare_with_tapes(random: &mut Random, tables: &Tables, ahead: bool) {
+    let (mut own, count) = (random.clone(), tables.num_machines());
+    let mut source = Source(&mut own);
+    let mut recorded = Recorded::new(&mut source);
+    let mut framework = Framework::open(tables, 0.5, 0.5, 0, &mut recorded).unwrap();
+    let (mut twin, used) = Framework::open_with(tables, 0.5, 0.5, 0, &recorded.values).unwrap();
+    assert_eq!((used.chances, used.values), (0, recorded.values.len()));
+    let (mut chances, mut values) = (0, used.values);
+    for time in 1..40 {
+        let happened = random.below(6);
+        let happened = events(random, happened, count);
+        let actions = framework.trigger_events(&happened, 10 * time, &mut recorded).unwrap();
+        let (actions, mut out): (Vec<TriggerAction>, _) = (actions.to_vec(), Vec::new());
+        let tapes = (&recorded.chances[chances..], &recorded.values[values..]);
+        let used = twin.batch(10 * time, &happened, tapes.0, tapes.1, &mut out).unwrap();
+        assert_eq!(out, actions);
+        assert_eq!(twin.state().to_words(), framework.state().to_words());
+        (chances, values) = (chances + used.chances, values + used.values);
+        assert!(ahead || values == recorded.values.len());
     }
 }
 
@@ -41,33 +39,22 @@ impl Draws for Recorded<'_> {
 fn a_source_gives_the_run_of_the_same_tapes() {
     let mut random = Random::new(11);
     for _ in 0..60 {
-        let count = random.below(4);
-        let states = 1 + random.below(5);
-        let tables = Tables::new(&machines(&mut random, count, states, &mut any_dist)).unwrap();
-        let mut own = random.clone();
-        let mut source = Source(&mut own);
-        let mut recorded = Recorded::new(&mut source);
-        let mut framework = Framework::open(&tables, 0.5, 0.5, 0, &mut recorded).unwrap();
-        let (mut twin, used) =
-            Framework::open_with(&tables, 0.5, 0.5, 0, &recorded.values).unwrap();
-        assert_eq!((used.chances, used.values), (0, recorded.values.len()));
-        let mut chances_taken = 0;
-        for time in 1..40 {
-            let happened = random.below(6);
-            let happened = events(&mut random, happened, count);
-            recorded.values.clear();
-            let actions = framework
-                .trigger_events(&happened, 10 * time, &mut recorded)
-                .expect("draws in range");
-            let actions: Vec<TriggerAction> = actions.to_vec();
-            let (mut out, values) = (Vec::new(), &recorded.values);
-            let chances = &recorded.chances[chances_taken..];
-            let used = twin.batch(10 * time, &happened, chances, values, &mut out).unwrap();
-            assert_eq!(out, actions);
-            assert_eq!(used.values, values.len());
-            assert_eq!(twin.state().to_words(), framework.state().to_words());
-            chances_taken += used.chances;
-        }
+        let (count, states) = (random.below(4), 1 + random.below(5));
+        let built = machines(&mut random, count, states, &mut any_dist);
+        let drawing = drawing(&built);
+        let ahead = drawing.iter().all(|dist| *dist == drawing[0]);
+        compare_with_tapes(&mut random, &Tables::new(&built).unwrap(), ahead);
+    }
+}
+
+#[test]
+fn so_does_a_source_of_draws_taken_ahead() {
+    let mut random = Random::new(12);
+    for _ in 0..60 {
+        let (count, states, only) =
+            (random.below(4), 1 + random.below(5), any_dist(&mut random.clone()));
+        let built = machines(&mut random, count, states, &mut |_| only);
+        compare_with_tapes(&mut random, &Tables::new(&built).unwrap(), true);
     }
 }
 
@@ -75,8 +62,8 @@ fn a_source_gives_the_run_of_the_same_tapes() {
 struct Small(Random);
 
 impl Draws for Small {
-    fn chance(&mut self) -> f32 {
-        self.0.chance()
+    fn word(&mut self) -> u64 {
+        self.0.word()
     }
 
     fn value(&mut self, dist: &DistType) -> f64 {
@@ -91,25 +78,28 @@ impl Draws for Small {
 /// The same machines twice. In the first each distribution is a Uniform with a range of its own, which
 /// start takes back, so the library itself refuses a draw asked of another one. In the second they are
 /// drawn outside, with the same samples: nothing but the asking tells them apart.
+fn numbered_twice(random: &Random, count: usize, states: usize) -> [Tables; 2] {
+    [false, true].map(|outside| {
+        let (mut random, mut number) = (random.clone(), 0.0);
+        let mut dist = |_: &mut Random| {
+            number += 1.0;
+            let low = 1000.0 * number;
+            if outside {
+                Dist::new(DistType::Poisson { lambda: number }, 0.0, 0.0)
+            } else {
+                Dist::new(DistType::Uniform { low, high: low + 8.0 }, -low, 0.0)
+            }
+        };
+        Tables::new(&machines(&mut random, count, states, &mut dist)).unwrap()
+    })
+}
+
 #[test]
 fn the_asked_distribution_is_the_right_one() {
     for seed in 0..60 {
         let mut random = Random::new(100 + seed);
         let (count, states) = (1 + random.below(3), 1 + random.below(6));
-        let build = |outside: bool| {
-            let (mut random, mut number) = (random.clone(), 0.0);
-            let mut dist = |_: &mut Random| {
-                number += 1.0;
-                let low = 1000.0 * number;
-                if outside {
-                    Dist::new(DistType::Poisson { lambda: number }, 0.0, 0.0)
-                } else {
-                    Dist::new(DistType::Uniform { low, high: low + 8.0 }, -low, 0.0)
-                }
-            };
-            Tables::new(&machines(&mut random, count, states, &mut dist)).unwrap()
-        };
-        let tables = [build(false), build(true)];
+        let tables = numbered_twice(&random, count, states);
         let mut sources = [Small(random.clone()), Small(random.clone())];
         let [first, second] = &mut sources;
         let mut recorded = [Recorded::new(first), Recorded::new(second)];
@@ -150,7 +140,7 @@ fn a_draw_becomes_what_the_library_makes_of_it() {
         let action = Action::UpdateTimer { replace: false, duration: dist, limit: Some(dist) };
         let state = State::new([(Event::TunnelSent, vec![Trans(1, 1.0)])]);
         let next = State::default().with_action(action);
-        let tables = Tables::new(&[common::free(vec![state, next])]).unwrap();
+        let tables = Tables::new(&[free(vec![state, next])]).unwrap();
         let (mut framework, _) = Framework::open_with(tables, 0.0, 0.0, 0, &[]).unwrap();
         let drawn = [pick(&mut random), pick(&mut random)];
         let mut out = Vec::new();
@@ -167,40 +157,135 @@ fn a_draw_becomes_what_the_library_makes_of_it() {
     }
 }
 
-/// A source whose draws are out of range.
-struct Wrong(f32, f64);
+/// A machine that pads after a timeout on each normal packet, in this many states in turn.
+fn pads_in_turn(states: usize, timeout: impl Fn(usize) -> Dist) -> Machine {
+    let state = |k: usize| {
+        let (bypass, replace, limit, timeout) = (false, false, None, timeout(k));
+        State::new([(Event::NormalSent, vec![Trans((k + 1) % states, 1.0)])])
+            .with_action(Action::SendPadding { bypass, replace, timeout, limit })
+    };
+    free((0..states).map(state).collect())
+}
 
-impl Draws for Wrong {
-    fn chance(&mut self) -> f32 {
-        self.0
+/// Counts what it is asked for.
+#[derive(Default)]
+struct Counting {
+    words: u64,
+    chances: usize,
+    values: usize,
+}
+
+impl Draws for Counting {
+    fn word(&mut self) -> u64 {
+        self.words += 0x0123_4567_89ab_cdef;
+        self.words
     }
 
-    fn value(&mut self, _: &DistType) -> f64 {
-        self.1
+    fn chance(&mut self) -> f32 {
+        self.chances += 1;
+        0.5
+    }
+
+    fn value(&mut self, dist: &DistType) -> f64 {
+        self.values += 1;
+        match *dist {
+            DistType::Uniform { low, .. } => low,
+            _ => 0.0,
+        }
     }
 }
 
+/// A call on one machine takes up to events * 2 + 3 chances; each of the states here samples one value.
 #[test]
-fn draws_out_of_range_change_nothing() {
-    let action = Action::SendPadding {
-        bypass: false,
-        replace: false,
-        timeout: Dist::uniform(1.0, 2.0),
-        limit: Some(Dist::uniform(3.0, 4.0)),
+fn draws_of_a_single_distribution_are_taken_ahead() {
+    let tables = Tables::new(&[pads_in_turn(3, |_| Dist::uniform(5.0, 9.0))]).unwrap();
+    let mut source = Counting::default();
+    let mut framework = Framework::open(&tables, 0.0, 0.0, 0, &mut source).unwrap();
+    assert_eq!((source.chances, source.values), (0, 0));
+    let mut trigger = |events: usize, time| {
+        let happened = vec![TriggerEvent::NormalSent; events];
+        let actions = framework.trigger_events(&happened, time, &mut source).unwrap();
+        assert_eq!(actions.len(), events.min(1));
+        (source.chances, source.values)
     };
-    let state = State::new([(Event::NormalSent, vec![Trans(0, 1.0)])]).with_action(action);
-    let machine = Machine::new(0, 0.0, 0, 0.0, vec![state]).unwrap();
-    let tables = Tables::new(&[machine]).unwrap();
-    let refusal = Framework::open(&tables, 0.0, 0.0, 0, Wrong(0.0, 1.5)).unwrap_err();
-    assert_eq!(refusal, Refusal::DrawOutOfRange);
-    let mut framework = Framework::open(&tables, 0.0, 0.0, 0, Wrong(0.0, 3.5)).unwrap();
-    let before = framework.state().to_words();
-    for wrong in [Wrong(0.0, 3.5), Wrong(0.0, f64::NAN), Wrong(1.0, 1.5), Wrong(f32::NAN, 1.5)] {
-        let mut other = framework.clone();
-        let said = other.trigger_events(&[TriggerEvent::NormalSent], 1, wrong).map(|_| ());
-        assert_eq!(said, Err(Refusal::DrawOutOfRange));
-        assert_eq!(other.state().to_words(), before);
+    assert_eq!(trigger(1, 1), (5, 5));
+    assert_eq!(trigger(1, 2), (6, 6));
+    assert_eq!(trigger(0, 3), (6, 6));
+    assert_eq!(trigger(4, 4), (2 + 11, 2 + 11));
+    assert_eq!(trigger(1, 5), (13, 13));
+}
+
+#[test]
+fn no_value_is_drawn_where_none_is_taken() {
+    let tables = Tables::new(&[pads_in_turn(3, |k| Dist::constant(k as f64))]).unwrap();
+    let mut source = Counting::default();
+    let mut framework = Framework::open(&tables, 0.0, 0.0, 0, &mut source).unwrap();
+    for time in 0..9 {
+        framework.trigger_events(&[TriggerEvent::NormalSent; 2], time, &mut source).unwrap();
     }
-    let sent = framework.trigger_events(&[TriggerEvent::NormalSent], 1, Wrong(0.0, 1.5)).unwrap();
-    assert_eq!(sent.len(), 1);
+    assert_eq!((source.chances, source.values), (7 + 2 * 8, 0));
+}
+
+#[test]
+fn different_distributions_are_asked_one_by_one() {
+    let low = |k: usize| Dist::uniform(k as f64, 10.0);
+    let tables = Tables::new(&[pads_in_turn(3, low)]).unwrap();
+    let mut source = Counting::default();
+    let mut framework = Framework::open(&tables, 0.0, 0.0, 0, &mut source).unwrap();
+    for time in 0..9 {
+        framework.trigger_events(&[TriggerEvent::NormalSent], time, &mut source).unwrap();
+        assert_eq!((source.chances, source.values), (5 + time as usize, 1 + time as usize));
+    }
+}
+
+/// 10,000 states, each with a distribution of its own.
+#[test]
+fn many_distributions_are_told_apart() {
+    let states = 10_000;
+    let dist = |k: usize| match k % 2 {
+        0 => Dist::uniform(k as f64, k as f64 + 1.0),
+        _ => Dist::new(DistType::Poisson { lambda: k as f64 }, 0.0, 0.0),
+    };
+    let tables = Tables::new(&[pads_in_turn(states, dist)]).unwrap();
+    let mut source = Words(Random::new(3));
+    let mut recorded = Recorded::new(&mut source);
+    let mut framework = Framework::open(&tables, 0.0, 0.0, 0, &mut recorded).unwrap();
+    for time in 0..4 {
+        framework.trigger_events(&[TriggerEvent::NormalSent; 3], time, &mut recorded).unwrap();
+    }
+    let expected: Vec<DistType> = (1..13).map(|k| dist(k).dist).collect();
+    assert_eq!(recorded.asked, expected);
+}
+
+/// The actions of some batches.
+fn run(mut framework: Framework<&Tables>, seed: u64) -> Vec<Vec<TriggerAction>> {
+    let mut source = Words(Random::new(seed));
+    let mut batch = |time| {
+        framework.trigger_events(&[TriggerEvent::NormalSent], time, &mut source).unwrap().to_vec()
+    };
+    (10..40).map(&mut batch).collect()
+}
+
+/// Clones have no draws of the first one in store, neither chances nor values.
+#[test]
+fn clones_go_by_the_source_that_they_are_lent() {
+    let same = |_| Dist::uniform(0.0, 1e9);
+    let half = State::new([(Event::NormalSent, vec![Trans(1, 0.5)])]);
+    let constant =
+        Action::UpdateTimer { replace: true, duration: Dist::constant(3.0), limit: None };
+    let chosen = State::new([(Event::NormalSent, vec![Trans(0, 0.5)])]).with_action(constant);
+    for machine in [pads_in_turn(3, same), free(vec![half, chosen])] {
+        let tables = Tables::new(&[machine]).unwrap();
+        let mut source = Words(Random::new(1));
+        let mut framework = Framework::open(&tables, 0.0, 0.0, 0, &mut source).unwrap();
+        framework.trigger_events(&[TriggerEvent::NormalSent; 40], 1, &mut source).unwrap();
+        let mut runs = Vec::new();
+        for seed in 0..20 {
+            let without = Framework::resume(&tables, *framework.state()).unwrap();
+            runs.push(run(framework.clone(), seed));
+            assert_eq!(runs[runs.len() - 1], run(without, seed));
+        }
+        let different: HashSet<_> = runs.iter().collect();
+        assert_eq!(different.len(), runs.len());
+    }
 }

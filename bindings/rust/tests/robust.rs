@@ -61,15 +61,19 @@ fn an_overwritten_framework_is_refused_as_18_or_runs() {
                 }
             }
             if round % 2 == 1 {
-                words[0] = count as u64;
-                words[9] = random.below(count + 3) as u64;
-                (0..count).for_each(|k| words[11 + 9 * k] = random.below(states) as u64);
+                let mut framework = sys::Framework::from_words(words);
+                framework.machines = count as u64;
+                framework.signal_pending = random.below(count + 3) as u64;
+                for machine in &mut framework.runtime[..count] {
+                    machine.current_state = random.below(states) as u64;
+                }
+                words = framework.to_words();
             }
             let happened = events(&mut random, 3, count);
             let lent: Vec<u64> = happened.iter().flat_map(|event| event.to_words()).collect();
             let call = || {
                 let (mut framework, mut out) = (sys::Framework::from_words(words), [MARK; 100]);
-                let (time, out_len) = (words[1].wrapping_add(7), 6 * count + 2);
+                let (time, out_len) = (framework.current_time.wrapping_add(7), 6 * count + 2);
                 let reply = sys::batch(
                     &mut framework,
                     tables.words(),

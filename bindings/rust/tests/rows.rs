@@ -17,7 +17,7 @@ fn dist_of(words: &[u64]) -> Option<Dist> {
     let dist = match words[0] {
         0 => return None,
         1 => DistType::Uniform { low: float(1), high: float(2) },
-        2 => OUTSIDE,
+        2 => DistType::Outside,
         kind => panic!("kind {kind}"),
     };
     Some(Dist::new(dist, float(3), float(4)))
@@ -82,16 +82,13 @@ fn machines_of(tables: Words<'_>) -> Vec<Machine> {
     tables.machines.chunks(6).map(machine).collect()
 }
 
-/// What every type other than Uniform is read back as.
-const OUTSIDE: DistType = DistType::Poisson { lambda: 1.0 };
-
 #[test]
 fn rows_read_back() {
     let mut random = Random::new(1);
     let mut dist = |random: &mut Random| {
         let mut dist = any_dist(random);
         if !matches!(dist.dist, DistType::Uniform { .. }) {
-            dist.dist = OUTSIDE;
+            dist.dist = DistType::Outside;
         }
         dist
     };
@@ -163,7 +160,7 @@ fn the_builder_refuses_what_the_library_refuses() {
         match Tables::new(&built) {
             Ok(_) => assert_eq!(said, Ok(())),
             Err(invalid) => {
-                assert_eq!(said, Err(invalid.refusal), "{invalid}");
+                assert_eq!(said, Err(invalid.refusal.into()), "{invalid}");
                 assert_eq!(invalid.place.machine, Some(spoilt), "{invalid}");
                 seen[invalid.refusal.number() as usize] += 1;
             }

@@ -10,12 +10,21 @@ use maybenot_link::state::{State, Trans};
 use maybenot_link::{Draws, Machine, MachineId, Timer, TriggerEvent};
 pub use random::Plain as Random;
 
-/// The generator as a source of draws.
+/// The generator as a source of words, with the draws that follow from them.
+pub struct Words(pub Random);
+
+impl Draws for Words {
+    fn word(&mut self) -> u64 {
+        self.0.word()
+    }
+}
+
+/// The generator as a source of draws, at times odd ones.
 pub struct Source<'a>(pub &'a mut Random);
 
 impl Draws for Source<'_> {
-    fn chance(&mut self) -> f32 {
-        self.0.chance()
+    fn word(&mut self) -> u64 {
+        self.0.word()
     }
 
     fn value(&mut self, dist: &DistType) -> f64 {
@@ -35,6 +44,49 @@ impl Draws for Source<'_> {
             _ => 20.0 * random.unit() - 3.0,
         }
     }
+}
+
+/// Hands draws on and keeps them.
+pub struct Recorded<'a> {
+    source: &'a mut dyn Draws,
+    pub chances: Vec<f32>,
+    pub values: Vec<f64>,
+    pub asked: Vec<DistType>,
+}
+
+impl<'a> Recorded<'a> {
+    pub fn new(source: &'a mut dyn Draws) -> Self {
+        Recorded { source, chances: Vec::new(), values: Vec::new(), asked: Vec::new() }
+    }
+}
+
+impl Draws for Recorded<'_> {
+    fn word(&mut self) -> u64 {
+        self.source.word()
+    }
+
+    fn chance(&mut self) -> f32 {
+        self.chances.push(self.source.chance());
+        self.chances[self.chances.len() - 1]
+    }
+
+    fn value(&mut self, dist: &DistType) -> f64 {
+        self.values.push(self.source.value(dist));
+        self.asked.push(*dist);
+        self.values[self.values.len() - 1]
+    }
+}
+
+/// The distributions of these machines that take a draw.
+pub fn drawing(machines: &[Machine]) -> Vec<Dist> {
+    let of_state = |state: &State| {
+        let counters = [state.counter.0, state.counter.1].into_iter().flatten();
+        let counters = counters.filter(|counter| !counter.copy).map(|counter| counter.dist);
+        let action = state.action.map_or([None; 3], |action| action.dists());
+        let all: Vec<Dist> = action.into_iter().chain(counters).flatten().collect();
+        all.into_iter().filter(|dist| dist.dist.takes_draw())
+    };
+    machines.iter().flat_map(|machine| machine.states.iter().flat_map(of_state)).collect()
 }
 
 /// A machine of these states with no limits.
