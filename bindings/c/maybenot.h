@@ -59,6 +59,7 @@ enum {
     MAYBENOT_MACHINE_WORDS = 6,    /* a row of the machine table */
     MAYBENOT_STATE_WORDS = 58,     /* a row of the state table */
     MAYBENOT_TRANSITION_WORDS = 2, /* a row of the transition table */
+    MAYBENOT_PAIR_WORDS = 2,       /* a pair in a state row */
     MAYBENOT_DIST_WORDS = 5,       /* a distribution in a state row */
     MAYBENOT_COUNTER_WORDS = 7,    /* a counter in a state row */
     MAYBENOT_EVENT_WORDS = 2,      /* an event of a batch */
@@ -85,7 +86,13 @@ enum {
     MAYBENOT_STATE_AT_LIMIT = 13,    /* a distribution, or absent: how often the action is taken while the state stays */
     MAYBENOT_STATE_AT_COUNTER_A = 18, /* a counter: how A changes when the state is entered */
     MAYBENOT_STATE_AT_COUNTER_B = 25,
-    MAYBENOT_STATE_AT_PAIRS = 32 /* for each enum maybenot_on: first transition row, and how many; 0: the event does nothing */
+    MAYBENOT_STATE_AT_PAIRS = 32 /* a pair for each enum maybenot_on, in order */
+};
+
+/* Words of a pair: a state's transitions on one event. */
+enum {
+    MAYBENOT_PAIR_AT_FIRST = 0, /* a row of the transition table */
+    MAYBENOT_PAIR_AT_COUNT = 1  /* how many; 0: the event does nothing here */
 };
 
 /* The events that a state may have transitions on, in the order of its pairs. These are not the numbers of a batch's events
@@ -418,9 +425,9 @@ static inline void maybenot_put_counter(uint64_t *counter, enum maybenot_operati
 
 /* The transitions of a state on an event: `count` rows of the transition table from `first` on. */
 static inline void maybenot_put_pair(uint64_t *state, enum maybenot_on event, uint64_t first, uint64_t count) {
-    uint64_t *pair = state + MAYBENOT_STATE_AT_PAIRS + 2 * (size_t)event;
-    pair[0] = first;
-    pair[1] = count;
+    uint64_t *pair = state + MAYBENOT_STATE_AT_PAIRS + MAYBENOT_PAIR_WORDS * (size_t)event;
+    pair[MAYBENOT_PAIR_AT_FIRST] = first;
+    pair[MAYBENOT_PAIR_AT_COUNT] = count;
 }
 
 static inline void maybenot_put_transition(uint64_t *row, uint64_t target, float probability) {

@@ -52,11 +52,11 @@ def fraction(tables, name):
 C_HEAD = """#include <stdint.h>
 
 /* no warning for a table that is not used */
-#ifndef TABLE_MAY_BE_UNUSED
+#ifndef MAYBENOT_MAY_BE_UNUSED
 #if defined(__GNUC__)
-#define TABLE_MAY_BE_UNUSED __attribute__((unused))
+#define MAYBENOT_MAY_BE_UNUSED __attribute__((unused))
 #else
-#define TABLE_MAY_BE_UNUSED
+#define MAYBENOT_MAY_BE_UNUSED
 #endif
 #endif
 """
@@ -69,8 +69,8 @@ def c_comment(text):
 def c_table(tables, kind, prefix):
     name, rows, width = f"{prefix}{kind}s", tables.rows(kind), WIDTHS[kind]
     if not rows:  # C has no array of 0
-        return [f"static const uint64_t {name}[1] TABLE_MAY_BE_UNUSED = {{0}}; /* no rows: {name}_len is 0 */"]
-    head = f"static const uint64_t {name}[{width} * {rows}] TABLE_MAY_BE_UNUSED = {{"
+        return [f"static const uint64_t {name}[1] MAYBENOT_MAY_BE_UNUSED = {{0}}; /* no rows: {name}_len is 0 */"]
+    head = f"static const uint64_t {name}[{width} * {rows}] MAYBENOT_MAY_BE_UNUSED = {{"
     return [head, *table_lines(tables, kind, c_comment), "};"]
 
 
@@ -78,8 +78,8 @@ def c_source(tables, name):
     """The constants of the opening, the tables' lengths in words, and the tables; 'name' is an identifier or empty."""
     prefix = f"{name}_" if name else ""
     lines = [C_HEAD]
-    lines += [f"static const double {prefix}{f} TABLE_MAY_BE_UNUSED = {fraction(tables, f)};" for f in FRACTIONS]
-    lines += [f"static const uint64_t {prefix}opening_time TABLE_MAY_BE_UNUSED = UINT64_C({tables.framework['time']});", ""]
+    lines += [f"static const double {prefix}{f} MAYBENOT_MAY_BE_UNUSED = {fraction(tables, f)};" for f in FRACTIONS]
+    lines += [f"static const uint64_t {prefix}opening_time MAYBENOT_MAY_BE_UNUSED = UINT64_C({tables.framework['time']});", ""]
     lens = [f"    {prefix}{kind}s_len = {len(tables.table(kind))}" for kind in WIDTHS]
     lines += ["enum {", ",\n".join(lens), "};"]
     for kind in WIDTHS:
