@@ -307,8 +307,8 @@ maybenot_opened maybenot_opening(
     const double *values, size_t values_len);
 
 /* Runs a batch of events on the framework, and writes a row for each action to take, in the order of machines. The tables are
- * the opening's. For n events and M machines, n * (M + 1) + M + 2 chance draws and five times as many value draws are enough,
- * and 6 * M words of output. */
+ * the opening's. For n events and M machines, n * (M + 1) + M + 2 chance draws and five times as many value draws are enough
+ * (counted from the steps, not proved), and 6 * M words of output. */
 maybenot_reply maybenot_batch(
     maybenot_framework *framework,
     const uint64_t *machines, size_t machines_len,
