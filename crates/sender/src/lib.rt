@@ -1,4 +1,6 @@
 // What a sender links: the framework's entries as C functions. All exports stand in this crate.
+use sheet::SheetBytes;
+use sheet::SheetRows;
 use steps::Framework;
 use steps::Opened;
 ghost use mathlib.Core.Path.{_≡_};
@@ -6,6 +8,8 @@ ghost use Rattle.steps.specs.Framework as Spec;
 ghost use mathlib.Core.List.{[]};
 ghost use Rattle.machine.specs.Source.{tapes};
 ghost use Rattle.events.specs.Run.{tables};
+ghost use Rattle.sheet.specs.Reader.{sheetRead};
+ghost use Rattle.sheet.specs.Writer.{sheetWrite};
 ghost use Rattle.sender.specs.Reply.{Promised};
 
 // A batch's answer without its framework: the refusal or 0, how many rows it wrote, and how many
@@ -96,4 +100,35 @@ pub extern "C" fn maybenot_all_machines_ended(fw: &Framework) -> bool
     ensures { λ r. ⌜ r ≡ Spec.allMachinesEnded (now (fw .entry)) ⌝ }
 {
     framework::all_machines_ended(*fw)
+}
+
+// Reads a sheet into the lent tables.
+#[no_mangle]
+pub extern "C" fn maybenot_sheet_read(
+    sheet: &[u8],
+    machines: &mut [u64],
+    states: &mut [u64],
+    transitions: &mut [u64],
+) -> SheetRows
+    ensures { λ r. ⌜ (
+        let R = sheetRead (now (sheet .entry)) (now (machines .entry)) (now (states .entry)) (now (transitions .entry)) in
+        (r ≡ R .answer) × (now (machines .exit) ≡ R .machines) × (now (states .exit) ≡ R .states)
+        × (now (transitions .exit) ≡ R .transitions)) ⌝ }
+{
+    sheet::read(sheet, machines, states, transitions)
+}
+
+// Writes the sheet of the lent tables.
+#[no_mangle]
+pub extern "C" fn maybenot_sheet_write(
+    machines: &[u64],
+    states: &[u64],
+    transitions: &[u64],
+    sheet: &mut [u8],
+) -> SheetBytes
+    ensures { λ r. ⌜ (
+        let W = sheetWrite (now (machines .entry)) (now (states .entry)) (now (transitions .entry)) (now (sheet .entry)) in
+        (r ≡ W .answer) × (now (sheet .exit) ≡ W .sheet)) ⌝ }
+{
+    sheet::write(machines, states, transitions, sheet)
 }

@@ -36,7 +36,7 @@ unfolding rests
 none i r out l e h = rw e at h
 
 -- columns are as many as they say
-length-rests : (w r : ℕ) → length (rests w r) ≡ w
+pub length-rests : (w r : ℕ) → length (rests w r) ≡ w
 unfolding rests
 length-rests zero r = refl
 length-rests (suc w) r = length-append (rests w (r / 10)) (mark r ∷ []) ∙ omega (arith, length-rests w (r / 10))

@@ -100,7 +100,7 @@ readBack bs = foldl readOn 0 bs
 digit : (n : ℕ) → readOn (n / 10) (48 + n % 10) ≡ n
 digit n = rw (ne-eqb (48 + n % 10) 32 (λ e. omega (arith, e))) (omega arith)
 
-read-rests : (w r : ℕ) → r < 10 ^ w → readBack (rests w r) ≡ r
+pub read-rests : (w r : ℕ) → r < 10 ^ w → readBack (rests w r) ≡ r
 unfolding rests readBack
 read-rests zero r h = omega (arith, pow-zero 10)
 read-rests (suc w) r h =

@@ -36,7 +36,7 @@ fn put_number(out: &mut [u8], width: usize, n: u64)
 }
 
 // The same in the columns from `at` on.
-fn put_cell(line: &mut [u8], at: usize, width: usize, n: u64)
+pub fn put_cell(line: &mut [u8], at: usize, width: usize, n: u64)
     requires { ⌜ (0 < width) × (at + width ≤ length (now line)) ⌝ }
     ensures { λ _. ⌜ now (line .exit) ≡ cellIn at width n (now (line .entry)) ⌝ }
 {

@@ -1,0 +1,106 @@
+-- The calls of the writer and of the reader: what is known where one is not refused, and what it then answers and leaves.
+use Prim.Native.Nat.{ℕ, _*_, _%_, _≤_, _<_}
+use mathlib.Core.Path.{_≡_, refl}
+use mathlib.Core.Bool.{Bool, true, false, cond, _&&_}
+use mathlib.Core.List.{List}
+use native.Mathlib.Omega.{arith}
+use lib.Dec.{eqb, leb, lit<}
+use lib.ListN.{length}
+use borrow.Author.Tests.{eqb-true, leb-true, le-leb}
+use Rattle.machine.specs.Constants.{machineWords, stateWords, transitionWords}
+use Rattle.sheet.specs.Sheet.{sheetOf}
+use Rattle.sheet.specs.Writer.{wholeRows, writeRefusal, over, sheetWrite}
+use Rattle.sheet.specs.Reader.{machineLines, stateLines, transitionLines, formOf, roomFor, readRefusal, sheetRead}
+use Rattle.sheet.specs.RoundTrip.Tests.{both}
+use Rattle.sheet.specs.RoundTrip.U64.{Words}
+use Rattle.sheet.specs.RoundTrip.Form.{Sound, machinesOf, statesOf, transitionsOf}
+
+-- a test that leaves no refusal
+passed : (a : Bool) (x y : ℕ) → 0 < y → cond a x y ≡ 0 → (a ≡ true) × (x ≡ 0)
+passed true x y p h = (refl, h)
+passed false x y p h = absurd (omega (arith, p, h))
+
+-- ---- the writer
+
+module _ (m s t sheet : List ℕ) where
+  not-refused : sheetWrite m s t sheet .answer .refusal ≡ 0 → writeRefusal m s t sheet ≡ 0
+  unfolding sheetWrite
+  not-refused h = by-test (eqb (writeRefusal m s t sheet) 0) refl
+    where
+      by-test : (b : Bool) → eqb (writeRefusal m s t sheet) 0 ≡ b → writeRefusal m s t sheet ≡ 0
+      by-test true e = eqb-true (writeRefusal m s t sheet) 0 e
+      by-test false e = rw e at h
+
+  -- the tables are whole rows, and their sheet has room
+  pub write-accepted : sheetWrite m s t sheet .answer .refusal ≡ 0 → Words m → Words s → Words t
+      → Sound m s t × (length (sheetOf m s t) ≤ length sheet)
+  unfolding writeRefusal wholeRows
+  write-accepted h wm ws wt =
+      let a = eqb (length m % machineWords) 0 in
+      let b = eqb (length s % stateWords) 0 in
+      let c = eqb (length t % transitionWords) 0 in
+      let room = leb (length (sheetOf m s t)) (length sheet) in
+      let g = passed (a && (b && c)) (cond room 0 23) 3 (lit< tt) (not-refused h) in
+      let ab = both a (b && c) (g .0) in
+      let bc = both b c (ab .1) in (
+        record {
+          machine-rows = eqb-true (length m % machineWords) 0 (ab .0);
+          state-rows = eqb-true (length s % stateWords) 0 (bc .0);
+          transition-rows = eqb-true (length t % transitionWords) 0 (bc .1);
+          machine-words = wm;
+          state-words = ws;
+          transition-words = wt;
+        },
+        leb-true (length (sheetOf m s t)) (length sheet) (passed room 0 23 (lit< tt) (g .1) .0),
+      )
+
+  pub writes : Sound m s t → length (sheetOf m s t) ≤ length sheet
+      → sheetWrite m s t sheet
+      ≡ record { answer = record { refusal = 0; bytes = length (sheetOf m s t) }; sheet = over (sheetOf m s t) sheet }
+  unfolding sheetWrite writeRefusal wholeRows
+  writes k l = rw (k .machine-rows, k .state-rows, k .transition-rows, le-leb (length (sheetOf m s t)) (length sheet) l)
+
+-- ---- the reader
+
+module _ (sheet m s t : List ℕ) where
+  pub read-accepted : sheetRead sheet m s t .answer .refusal ≡ 0 → readRefusal sheet m s t ≡ 0
+  unfolding sheetRead
+  read-accepted h = by-test (eqb (readRefusal sheet m s t) 0) refl
+    where
+      by-test : (b : Bool) → eqb (readRefusal sheet m s t) 0 ≡ b → readRefusal sheet m s t ≡ 0
+      by-test true e = eqb-true (readRefusal sheet m s t) 0 e
+      by-test false e = rw e at h
+
+  -- the form has passed
+  pub form-passed : readRefusal sheet m s t ≡ 0 → formOf sheet .whole ≡ true
+  unfolding readRefusal
+  form-passed h = passed (formOf sheet .whole) _ 22 (lit< tt) h .0
+
+  -- the form passes, and the tables have room
+  pub not-refused-read : formOf sheet .whole ≡ true → machineWords * formOf sheet .machines ≤ length m
+      → stateWords * formOf sheet .states ≤ length s → transitionWords * formOf sheet .transitions ≤ length t
+      → readRefusal sheet m s t ≡ 0
+  unfolding readRefusal roomFor
+  not-refused-read w lm ls lt =
+      rw (
+        le-leb (machineWords * formOf sheet .machines) (length m) lm,
+        le-leb (stateWords * formOf sheet .states) (length s) ls,
+        le-leb (transitionWords * formOf sheet .transitions) (length t) lt,
+        w,
+      )
+
+  pub reads : readRefusal sheet m s t ≡ 0
+      → sheetRead sheet m s t
+      ≡ record {
+        answer = record {
+          refusal = 0;
+          machines = machineLines sheet;
+          states = stateLines sheet;
+          transitions = transitionLines sheet;
+        };
+        machines = over (machinesOf sheet) m;
+        states = over (statesOf sheet) s;
+        transitions = over (transitionsOf sheet) t;
+      }
+  unfolding sheetRead formOf
+  reads h = rw h
