@@ -21,8 +21,9 @@ from words_lib.check import findings  # noqa: E402
 from words_lib.drawn import bits  # noqa: E402
 from words_lib.floats import Bad, float_text, nearest32  # noqa: E402
 from words_lib.layout import ACTIONS, EVENTS, KINDS, LINKRUN_MAX, OPERATIONS, TIMERS  # noqa: E402
-from words_lib.printing import decode  # noqa: E402
+from words_lib.printing import decode, describe  # noqa: E402
 from words_lib.reading import Tables, Text, encode  # noqa: E402
+from words_lib.sheet import is_sheet, read_sheet, sheet_of  # noqa: E402
 from words_lib.source import c_source, rust_source  # noqa: E402
 
 ROOT = HERE.parent
@@ -382,11 +383,178 @@ class AgreementTest(unittest.TestCase):
         self.report("texts")
 
 
+# ---- sheets, in columns that are put together here
+
+MOST = (1 << 64) - 1
+
+
+def sheet_line(kind, *row):
+    return "".join([str(kind).rjust(4), *(str(word).rjust(21) for word in row)]) + "\n"
+
+
+def as_written(data):
+    """Whether a sheet is that of the words in it: what the reader has to judge."""
+    widths = {1: 6, 2: 58, 3: 2}
+    try:
+        rows = [[int(word) for word in line.split()] for line in data.decode("latin-1").splitlines()]
+    except ValueError:
+        return False
+    whole_rows = all(row and len(row) - 1 == widths.get(row[0]) and 0 <= min(row) and max(row) <= MOST for row in rows)
+    return whole_rows and "".join(sheet_line(*row) for row in sorted(rows, key=lambda row: row[0])).encode() == data
+
+
+def three(tables):
+    return tables.machines, tables.states, tables.transitions
+
+
+class SheetTest(unittest.TestCase):
+    ONE, TWO, THREE = sheet_line(1, *range(6)), sheet_line(2, *range(58)), sheet_line(3, 4294967295, 1065353216)
+
+    def returns(self, tables):
+        """The sheet of the tables, which reads back to them and makes a text of them."""
+        sheet = sheet_of(tables).encode()
+        again = read_sheet(sheet).tables()
+        self.assertEqual(three(again), three(tables))
+        self.assertEqual(three(Text(describe(again)).tables()), three(tables))
+        return sheet
+
+    def fails(self, sheet, place, part):
+        data = sheet.encode("latin-1")
+        self.assertFalse(as_written(data))
+        with self.assertRaises(Bad) as caught:
+            read_sheet(data)
+        self.assertEqual(caught.exception.line, place, str(caught.exception))
+        self.assertIn(part, str(caught.exception))
+
+    def test_form(self):
+        text = Text("\n".join(["raw transition 4294967295 1065353216", "raw machine 0 1 2 3 4 5",
+                               f"raw state {' '.join(map(str, range(58)))}", f"raw machine 0 {MOST} 10 0 0 1"]))
+        lines = [self.ONE, sheet_line(1, 0, MOST, 10, 0, 0, 1), self.TWO, self.THREE]
+        self.assertEqual(self.returns(text.tables()), "".join(lines).encode())
+        self.assertEqual([len(line) for line in lines], [131, 131, 1223, 47])
+        self.assertEqual(self.THREE, "   3           4294967295           1065353216\n")
+
+    def test_examples(self):
+        for path in EXAMPLES:
+            with self.subTest(path.name):
+                text = path.read_text(encoding="utf-8")
+                sheet = self.returns(Text(text).tables())
+                again = describe(read_sheet(sheet).tables())
+                self.assertNotIn("raw", again)
+                self.assertIn(again, decode(encode(text)))
+
+    def test_kept_sheet(self):
+        run = words("sheet", "examples/padding.txt")
+        self.assertEqual((run.returncode, run.stdout), (0, (ROOT / "examples/padding.sheet").read_bytes()))
+
+    def test_random_round_trips(self):
+        r = random.Random(5)
+        kinds, layouts = set(), set()
+        for _ in range(100):
+            for tables in (Text(decode(drawn.any_words(r))).tables(), drawn.any_tables(r)):
+                sheet = self.returns(tables)
+                self.assertTrue(as_written(sheet))
+                self.assertEqual(is_sheet(sheet), bool(sheet))
+                kinds.add(tuple(map(bool, three(tables))))
+                layouts.add("raw " in describe(tables))
+        self.assertEqual((len(kinds), layouts), (8, {True, False}))
+
+    def test_random_damages(self):
+        """The reader takes a sheet exactly where the writer would have written it."""
+        r = random.Random(6)
+        verdicts = {True: 0, False: 0}
+        for _ in range(1000):
+            data = drawn.damaged_sheet(r, sheet_of(drawn.any_tables(r)).encode())
+            try:
+                taken = sheet_of(read_sheet(data).tables()).encode() == data
+                self.assertTrue(taken, data)
+            except Bad as e:
+                self.assertRegex(e.line, r"[1-9][0-9]*:[1-9][0-9]*")
+                taken = False
+            self.assertEqual(taken, as_written(data), data)
+            verdicts[taken] += 1
+        self.assertGreater(min(verdicts.values()), 100)
+
+    def test_empty(self):
+        self.assertEqual(sheet_of(Text("").tables()), "")
+        self.assertEqual(three(read_sheet(b"").tables()), ([], [], []))
+        self.assertEqual(describe(read_sheet(b"").tables()), "")
+        self.fails("\n", "1:1", "the line ends here: a line has 1, 2 or 3 in column 4, and spaces before")
+
+    def test_numbers(self):
+        most = read_sheet(sheet_line(3, 18446744073709551615, 0).encode()).tables()
+        self.assertEqual(most.transitions, [18446744073709551615, 0])
+        beyond = "is not from 0 to 18446744073709551615"
+        self.fails(sheet_line(3, 0, 18446744073709551616), "1:27", f"word 1: 18446744073709551616 {beyond}")
+        self.fails(sheet_line(3, 99999999999999999999, 0), "1:6", f"word 0: 99999999999999999999 {beyond}")
+        self.fails(sheet_line(3, 0, 100000000000000000000), "1:26", f"word 1: 100000000000000000000 {beyond}")
+
+    def test_words(self):
+        columns = "word 1 stands in columns 26 to 46, decimal and right-justified, without leading zeros"
+        for word, column, found in (
+                ("x", 46, "'x'"), ("1x1", 45, "'x'"), ("1 ", 46, "' '"), ("1 1", 45, "' '"), ("", 46, "' '"),
+                ("01", 45, "'0'"), ("00", 45, "'0'"), ("0 ", 45, "'0'"), ("0x1", 44, "'0'"), ("-1", 45, "'-'"),
+                ("+1", 45, "'+'"), ("1_0", 45, "'_'"), ("1.0", 45, "'.'"), ("\t1", 45, r"'\t'"), ("1\r", 46, r"'\r'"),
+                ("\0", 46, r"'\x00'"), ("\xb2", 46, r"'\xb2'")):
+            self.fails(self.ONE + sheet_line(3, 0, word), f"2:{column}", f"{found} was not expected here: {columns}")
+
+    def test_kinds(self):
+        column = "a line has 1, 2 or 3 in column 4, and spaces before"
+        for head, at, found in (("   0", 4, "'0'"), ("   4", 4, "'4'"), ("   x", 4, "'x'"), ("    ", 4, "' '"),
+                                ("  11", 3, "'1'"), ("  01", 3, "'0'"), ("1   ", 1, "'1'"), ("  1 ", 3, "'1'"),
+                                ("\t  1", 1, r"'\t'"), ("\xef\xbb\xbf   1", 1, r"'\xef'")):
+            self.fails(self.ONE + head + self.ONE[4:], f"2:{at}", f"{found} was not expected here: {column}")
+        self.fails("   2" + self.ONE[4:], "1:131", "the line ends here: word 6 stands in columns 131 to 151")
+        self.fails("   1" + self.TWO[4:], "1:131", "' ' was not expected here: a machine line is 130 columns and a line feed")
+        self.fails(self.ONE + "   3" + self.ONE[4:], "2:47", "' ' was not expected here: a transition line is 46 columns")
+
+    def test_order(self):
+        for earlier, later, kinds in ((self.TWO, self.ONE, "machine state"), (self.THREE, self.ONE, "machine transition"),
+                                      (self.THREE, self.TWO, "state transition")):
+            kind, before = kinds.split()
+            self.fails(earlier + later, "2:4", f"a {kind} line stands behind a {before} line")
+        self.fails(self.ONE + self.TWO + self.THREE * 2 + self.ONE, "5:4", "a machine line stands behind a transition line")
+
+    def test_cuts(self):
+        """Each cut within the last line, and a line feed too early, too late or too much."""
+        for line, columns in ((self.ONE, 130), (self.THREE, 46)):
+            for at in range(1, columns):
+                self.fails(self.ONE + line[:at], f"2:{at + 1}", "the sheet ends here")
+                self.fails(line[:at] + "\n", f"1:{at + 1}", "the line ends here")
+            self.fails(line[:columns], f"1:{columns + 1}", "the sheet ends here")
+            self.fails(line[:columns] + " \n", f"1:{columns + 1}", "' ' was not expected here")
+            self.fails(line[:columns] + "\r\n", f"1:{columns + 1}", r"'\r' was not expected here")
+            self.fails(line + "\n", "2:1", "the line ends here")
+            self.fails(line + " ", "2:2", "the sheet ends here")
+
+    def test_check(self):
+        """Check finds in a sheet what it finds in a text of the same tables; its places are those of the words."""
+        r = random.Random(7)
+        for number, damages in drawn.DAMAGES.items():
+            t = drawn.Drawn(r)
+            r.choice(damages)(r, t)
+            tables = Text(decode(t.words())).tables()
+            expected = [n for n, _, _ in findings(tables) if n > 2]  # a sheet has no framework
+            self.assertEqual(number in expected, number > 2)
+            sheet = sheet_of(tables).encode()
+            in_sheet = list(findings(read_sheet(sheet).tables()))
+            self.assertEqual([n for n, _, _ in in_sheet], expected)
+            for _, place, _ in in_sheet:
+                line, column = map(int, place.split(":"))
+                self.assertRegex(sheet.splitlines()[line - 1][column - 2:].decode(), "^ [0-9]")
+        state = [0] * 58
+        state[0:2], state[56:58] = [5, 9], [0, 1]
+        sheet = sheet_line(1, 0, 0, 0, bits(2.0), 0, 1) + sheet_line(2, *state) + sheet_line(3, 7, 1 << 32)
+        self.assertEqual([(number, place) for number, place, _ in findings(read_sheet(sheet.encode()).tables())],
+                         [(5, "1:70"), (9, "3:37"), (10, "3:25"), (14, "2:25")])
+
+
 # ---- the command
 
 class CommandTest(unittest.TestCase):
     def test_usage(self):
-        for args in ([], ["enc"], ["encode", "a", "b"], ["c", "a", "b", "c"], ["check", "--all"], ["-h"], ["c", "-", "1a"]):
+        for args in ([], ["enc"], ["encode", "a", "b"], ["text", "a", "b"], ["c", "a", "b", "c"], ["check", "--all"], ["-h"],
+                     ["c", "-", "1a"]):
             run = words(*args)
             self.assertEqual((run.returncode, run.stdout), (2, b""), args)
             self.assertTrue(run.stderr)
@@ -398,7 +566,9 @@ class CommandTest(unittest.TestCase):
         usage, _, grammar = run.stdout.decode().partition("\n\n")
         self.assertIn("```grammar\n" + grammar + "```", document)
         self.assertIn("tools/words rust FILE", usage)
-        for name in filter(None, [*EVENTS, *ACTIONS, *TIMERS, *OPERATIONS, *KINDS, "raw", "chance", "call", "kind:", "bits:"]):
+        self.assertIn("tools/words text [SHEET]", usage)
+        names = [*EVENTS, *ACTIONS, *TIMERS, *OPERATIONS, *KINDS, "raw", "chance", "call", "kind:", "bits:", "SHEET", "LINE"]
+        for name in filter(None, names):
             self.assertIn(name, grammar)
 
     def test_help_without_the_document(self):
@@ -424,9 +594,11 @@ class CommandTest(unittest.TestCase):
         """What docs/WORDS.md shows of runs is printed."""
         document = (ROOT / "docs/WORDS.md").read_text(encoding="utf-8")
         runs = re.findall(r"^```console\n\$ tools/words (.*?)\n(.*?)^```$", document, re.S | re.M)
-        self.assertEqual([args.split()[0] for args, _ in runs], ["check", "check", "c", "rust"])
+        self.assertEqual([args.split()[0] for args, _ in runs], ["check", "check", "c", "rust", "text", "check"])
         with tempfile.TemporaryDirectory() as folder:
-            (pathlib.Path(folder) / "faulty.txt").write_text(re.search(r"^```text\n(.*?)^```$", document, re.S | re.M)[1])
+            for block, name in (("text", "faulty.txt"), ("sheet", "faulty.sheet")):
+                faulty = re.search(rf"^```{block}\n(.*?)^```$", document, re.S | re.M)[1]
+                (pathlib.Path(folder) / name).write_text(faulty)
             shutil.copytree(ROOT / "examples", f"{folder}/examples")
             for args, printed in runs:
                 self.assertEqual(words(*args.split(), folder=folder).stdout.decode(), printed)
@@ -442,6 +614,37 @@ class CommandTest(unittest.TestCase):
         run = words("check", str(ROOT / "examples/worked.txt"))
         self.assertEqual((run.returncode, run.stderr), (0, b""))
         self.assertTrue(run.stdout.endswith(b"worked.txt: no refusal: 1 machine, 1 state, 1 transition\n"))
+
+    def test_sheets(self):
+        """A sheet may stand for a text, one of the tables alone."""
+        text = "machine\n  state s0\n    action SendPadding\n    timeout uniform 10 10\n    on NormalSent -> s0 1\n"
+        sheet = words("sheet", "examples/worked.txt").stdout
+        self.assertEqual(words("sheet", data=sheet).stdout, sheet)
+        self.assertEqual(words("text", data=sheet).stdout.decode(), text)
+        self.assertEqual(words("encode", data=sheet).stdout, packed(encode(text)))
+        self.assertEqual(words("check", data=sheet).stdout, b"-: no refusal: 1 machine, 1 state, 1 transition\n")
+        for command in ("c", "rust"):
+            with_names, without = (re.sub(rb"/[/*].*", b"", words(command, data=data).stdout) for data in (text.encode(), sheet))
+            self.assertEqual(with_names, without)
+        for command in ("sheet", "text"):
+            self.assertEqual(words(command, data=b"").stdout, b"")
+
+    def test_malformed_sheets(self):
+        sheet = sheet_line(3, 1, 2) + sheet_line(3, 1, "x")
+        for mark in ("", "\ufeff", "\n"):
+            data = (mark + sheet).encode()
+            place = "1:1" if mark else "2:46"
+            for command in ("encode", "c", "rust", "sheet", "text"):
+                run = words(command, data=data)
+                self.assertEqual((run.returncode, run.stdout), (1, b""))
+                self.assertTrue(run.stderr.startswith(f"words: -:{place}: ".encode()), run.stderr)
+            run = words("check", data=data)
+            self.assertEqual((run.returncode, run.stderr), (1, b""))
+            self.assertTrue(run.stdout.startswith(f"-:{place}: refused as 22: ".encode()), run.stdout)
+        run = words("text", "examples/padding.txt")
+        self.assertEqual(run.stderr.decode().partition(" was ")[0], "words: examples/padding.txt:1:1: '#'")
+        run = words("encode", data=packed(encode("framework\nmax_padding_frac 0.6")))  # its first bytes are digits
+        self.assertEqual(run.stderr, b"words: -: not a text (is it words? then: decode)\n")
 
 
 # ---- printed tables: some texts, compiled together under one name each

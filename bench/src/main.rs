@@ -1,8 +1,8 @@
 //! Times the library against the Rust: same machines, events and draws, one process, in turns.
 //!
 //! `cargo run --release` prints the tables. With MACHINES STATES EVENTS SIDE BATCHES after `--` it
-//! runs one side (`ours`, `rust` or `check`) of one case, for a profiler. Built with another archive,
-//! `-- other` times it beside the present one.
+//! runs one side (`ours`, `rust` or `check`) of one case, for a profiler. `-- sheets` times the sheets'
+//! writer and reader. Built with another archive, `-- other` times it beside the present one.
 
 mod case;
 mod clock;
@@ -10,6 +10,7 @@ mod input;
 #[cfg(other)]
 mod other;
 mod reference;
+mod sheet;
 
 use case::Case;
 use maybenot_link::Tables;
@@ -210,6 +211,9 @@ fn main() {
     clock::stay_on_one_core();
     if args.len() == 5 {
         return profile(&args);
+    }
+    if args == ["sheets"] {
+        return sheet::compare();
     }
     if args == ["other"] {
         #[cfg(other)]

@@ -20,7 +20,7 @@ has() {
 check_layout() {
   local record=bindings/c/layout/$version.txt other
   cc -std=c11 $warnings bindings/c/layout.c $link -o "$out/layout"
-  "$out/layout" | diff "$record" - || fail "the header is not of version $version: raise it, here, in the header, in sender and in sys.rs"
+  "$out/layout" | diff "$record" - || fail "the header is not of version $version: raise it, here, in the header, in sender and in sys.rs, or record what was only added"
   tools/layout | diff "$record" - || fail "the Rattle is not of version $version"
   for other in bindings/c/layout/*.txt; do
     [ "$other" = "$record" ] || ! cmp -s "$other" "$record" || fail "$other and $record are the same"
@@ -44,7 +44,7 @@ check_compilers() {
   for compiler in gcc clang; do ! command -v $compiler > /dev/null || check_compiler $compiler -std=c11; done
   for compiler in g++ clang++; do ! command -v $compiler > /dev/null || check_compiler $compiler -std=c++11 -xc++; done
   [ -n "$tried" ] || check_compiler cc -std=c11
-  echo "bindings/c: the worked example, refused calls, helpers and the example sender are as they should be ($tried)"
+  echo "bindings/c: the worked example, refused calls, helpers, sheets and the example sender are as they should be ($tried)"
 }
 
 # must_not_link FLAGS: test.c with a header of another version

@@ -1,6 +1,6 @@
-/* Prints what crosses between a sender and the archive: the widths of rows, where their
- * parts begin, codes, and each struct's fields. layout/N.txt is what it
- * prints for the interface's version N. */
+/* Prints what crosses between a sender and the archive: the widths of rows and lines, where
+ * parts of rows begin, codes, and each struct's fields. layout/N.txt is what it prints for
+ * the interface's version N. */
 #include <stdio.h>
 
 #include "maybenot.h"
@@ -17,6 +17,11 @@ static void print_widths(void) {
     NUMBER(MAYBENOT_STATE_WORDS);
     NUMBER(MAYBENOT_TRANSITION_WORDS);
     NUMBER(MAYBENOT_ACTION_WORDS);
+    NUMBER(MAYBENOT_KIND_COLUMNS);
+    NUMBER(MAYBENOT_WORD_COLUMNS);
+    NUMBER(MAYBENOT_MACHINE_LINE);
+    NUMBER(MAYBENOT_STATE_LINE);
+    NUMBER(MAYBENOT_TRANSITION_LINE);
 }
 
 static void print_offsets(void) {
@@ -52,6 +57,12 @@ static void print_codes(void) {
     NUMBER(MAYBENOT_COUNTER_SET);
     NUMBER(MAYBENOT_DRAWS_USED_UP);
     NUMBER(MAYBENOT_DRAW_OUT_OF_RANGE);
+    NUMBER(MAYBENOT_MACHINE_KIND);
+    NUMBER(MAYBENOT_STATE_KIND);
+    NUMBER(MAYBENOT_TRANSITION_KIND);
+    NUMBER(MAYBENOT_TABLE_SIZE);
+    NUMBER(MAYBENOT_SHEET_FORM);
+    NUMBER(MAYBENOT_SHEET_ROOM);
 }
 
 static void print_framework(void) {
@@ -91,6 +102,14 @@ static void print_answers(void) {
     FIELD(maybenot_reply, actions);
     FIELD(maybenot_reply, chance_used);
     FIELD(maybenot_reply, value_used);
+    STRUCT(maybenot_sheet_rows);
+    FIELD(maybenot_sheet_rows, refusal);
+    FIELD(maybenot_sheet_rows, machines);
+    FIELD(maybenot_sheet_rows, states);
+    FIELD(maybenot_sheet_rows, transitions);
+    STRUCT(maybenot_sheet_bytes);
+    FIELD(maybenot_sheet_bytes, refusal);
+    FIELD(maybenot_sheet_bytes, bytes);
 }
 
 int main(void) {

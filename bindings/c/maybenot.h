@@ -1,15 +1,15 @@
 /* The framework as a C library: libsender.a, built by `rt staticlib sender` into target/staticlib/, for x86-64 Linux.
  *
- * Every function is total: any words, floats and lengths may be lent, and what does not fit is refused by number. A call that
- * refuses changes nothing: the framework is as it went in, the output untouched, both draw counts 0. Nothing is kept between
+ * Every function is total: any words, floats, bytes and lengths may be lent, and what does not fit is refused by number. A call
+ * that refuses changes nothing: whatever was lent is as it went in, and all counts of the answer are 0. Nothing is kept between
  * calls but what the sender keeps. There is no allocation, no lock and no global state: calls on different frameworks may run
  * at the same time.
  *
  * All words are uint64_t, times, timeouts and durations are in microseconds, floats in tables are words that hold their bits.
  * docs/FORMATS.md says the same at more length, with what a batch does. This header is C11 and C++11.
  *
- * Contents: the interface's version; the tables; events; actions; refusals; the structs and functions; the sender's duties;
- * helpers to write tables. */
+ * Contents: the interface's version; the tables; sheets; events; actions; refusals; the structs and functions; the sender's
+ * duties; helpers to write tables. */
 #ifndef MAYBENOT_H
 #define MAYBENOT_H
 
@@ -24,8 +24,9 @@ extern "C" {
 
 /* ---- The interface's version
  *
- * It is raised whenever a struct below or the width of a row changes. The archive has a function with the version in its name,
- * and whatever includes this header refers to it: with an archive of another version the program does not link. */
+ * It is raised whenever a struct below or the width of a row changes, and not where something is added. The archive has a
+ * function with the version in its name, and whatever includes this header refers to it: with an archive of another version the
+ * program does not link. Nor does one that calls a function which an older archive of its version lacks. */
 #define MAYBENOT_INTERFACE 1
 
 #define MAYBENOT_JOINED_(a, b) a##b
@@ -152,6 +153,32 @@ enum maybenot_operation {
     MAYBENOT_COUNTER_SET = 3
 };
 
+/* ---- Sheets: the three tables as text
+ *
+ * A line for each row: its kind in 4 columns, its words in 21 columns each, then a line feed. All numbers are decimal,
+ * right-justified with spaces before them and no leading zeros. The machines' lines come first, then the states', then the
+ * transitions'. A table without rows has no lines, so the empty text is a sheet. */
+enum {
+    MAYBENOT_MACHINE_KIND = 1,
+    MAYBENOT_STATE_KIND = 2,
+    MAYBENOT_TRANSITION_KIND = 3
+};
+
+enum {
+    MAYBENOT_KIND_COLUMNS = 4,
+    MAYBENOT_WORD_COLUMNS = 21,
+
+    /* bytes of a line, with its line feed: 131, 1223 and 47 */
+    MAYBENOT_MACHINE_LINE = MAYBENOT_KIND_COLUMNS + MAYBENOT_WORD_COLUMNS * MAYBENOT_MACHINE_WORDS + 1,
+    MAYBENOT_STATE_LINE = MAYBENOT_KIND_COLUMNS + MAYBENOT_WORD_COLUMNS * MAYBENOT_STATE_WORDS + 1,
+    MAYBENOT_TRANSITION_LINE = MAYBENOT_KIND_COLUMNS + MAYBENOT_WORD_COLUMNS * MAYBENOT_TRANSITION_WORDS + 1
+};
+
+/* Bytes of the sheet of so many rows; a constant where these are. */
+#define MAYBENOT_SHEET_LEN(machines, states, transitions)                                                                    \
+    (MAYBENOT_MACHINE_LINE * (size_t)(machines) + MAYBENOT_STATE_LINE * (size_t)(states)                                     \
+     + MAYBENOT_TRANSITION_LINE * (size_t)(transitions))
+
 /* ---- Events: what happened, two words each. A batch is a list of them, in the order in which they happened. */
 enum {
     MAYBENOT_EVENT_AT_KIND = 0,   /* enum maybenot_event */
@@ -215,7 +242,9 @@ enum maybenot_refusal {
     MAYBENOT_DRAW_OUT_OF_RANGE = 17,
     MAYBENOT_FRAMEWORK_MISFIT = 18,
     MAYBENOT_EVENT_LIST = 19,
-    MAYBENOT_OUTPUT_SIZE = 20
+    MAYBENOT_OUTPUT_SIZE = 20,
+    MAYBENOT_SHEET_FORM = 22, /* 21 is not this library's */
+    MAYBENOT_SHEET_ROOM = 23
 };
 
 /* A refusal in words. */
@@ -242,6 +271,8 @@ static inline const char *maybenot_refusal_text(uint64_t refusal) {
     case 18: return "the framework is not one of these tables";
     case 19: return "the event list has an odd number of words or a kind above 9";
     case 20: return "the output is shorter than a row for each machine";
+    case 22: return "a line of the sheet is malformed or misplaced";
+    case 23: return "a lent table or the lent sheet is too small";
     default: return "a refusal that this version of the header does not know";
     }
 }
@@ -288,11 +319,24 @@ typedef struct maybenot_reply {
     uint64_t value_used;
 } maybenot_reply;
 
+typedef struct maybenot_sheet_rows {
+    uint64_t refusal;  /* enum maybenot_refusal; look at it before the rest */
+    uint64_t machines; /* how many rows were read into each table */
+    uint64_t states;
+    uint64_t transitions;
+} maybenot_sheet_rows;
+
+typedef struct maybenot_sheet_bytes {
+    uint64_t refusal; /* enum maybenot_refusal; look at it before the rest */
+    uint64_t bytes;   /* how many were written */
+} maybenot_sheet_bytes;
+
 /* ---- The functions
  *
- * Each pointer comes with its length in elements; a length of 0 may come with NULL. What is only read (tables, events, tapes)
- * may overlap. `framework` and `out` are written: neither may overlap the other or anything else that is lent, and nobody else
- * may write or read them during the call. Pointers are aligned as their types are.
+ * Each pointer comes with its length in elements; a length of 0 may come with NULL. What is only read (const) may overlap.
+ * What is written (the framework, the output, the tables of a reader, the sheet of a writer) may not overlap anything else that
+ * is lent, and nobody else may write or read it during the call; what stands behind the part that was written stays. Pointers
+ * are aligned as their types are.
  *
  * Draws: the library draws no random numbers. `chances` and `values` are tapes of the sender's draws, read from the front: a
  * chance draw c is 0 <= c < 1, a value draw is of the distribution that asks for it. The answer says how many of each were
@@ -322,6 +366,26 @@ maybenot_reply maybenot_batch(
 
 /* Whether every machine has ended; true with no machines. */
 bool maybenot_all_machines_ended(const maybenot_framework *framework);
+
+/* Reads a sheet into the three tables, and says how many rows each got. It judges the form alone, with any number of rows: what
+ * they say is for the opening to judge, which is lent the rows that were read and not the rest of the room. For states,
+ * sheet_len / MAYBENOT_STATE_LINE rows are always room enough, and so for the others with their lines.
+ *   22   some byte is not the one that maybenot_sheet_write would have put there: the sheet is damaged, cut or none
+ *   23   the form is good, and a table is too small: lend larger ones */
+maybenot_sheet_rows maybenot_sheet_read(
+    const uint8_t *sheet, size_t sheet_len,
+    uint64_t *machines, size_t machines_len,
+    uint64_t *states, size_t states_len,
+    uint64_t *transitions, size_t transitions_len);
+
+/* Writes the sheet of the three tables, whatever their words, and says how many bytes it has; no 0 byte follows them.
+ *   3    a table is not whole rows: mend its length. More than 16 machines are not refused here
+ *   23   the lent sheet is too small: lend MAYBENOT_SHEET_LEN of the rows */
+maybenot_sheet_bytes maybenot_sheet_write(
+    const uint64_t *machines, size_t machines_len,
+    const uint64_t *states, size_t states_len,
+    const uint64_t *transitions, size_t transitions_len,
+    uint8_t *sheet, size_t sheet_len);
 
 /* ---- The sender's duties
  *
@@ -353,7 +417,7 @@ bool maybenot_all_machines_ended(const maybenot_framework *framework);
  *   Cancel           clear the action timer, the internal timer, or both; nothing is reported
  * A machine without a row keeps what it has pending.
  *
- * After a refusal nothing has happened: keep the events, and
+ * After a refused opening or batch nothing has happened: keep the events, and
  *   16               try again with longer tapes: the same draws and more behind them
  *   17               the draw that was asked for was out of its range: try again with fresh draws, and mend their source
  *   18               give up: the framework was written by someone else, or the tables are others; open anew

@@ -1,1 +1,1 @@
-"""The parts of tools/words: layout, floats, reading (text to tables and words), printing (words to text), check, source."""
+"""The parts of tools/words: layout, floats, reading (text to tables, words), printing (words to text), sheet, check, source."""

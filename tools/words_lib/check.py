@@ -1,4 +1,4 @@
-"""Refusals 1 to 15 of an opening, over the tables of a text, in the library's order."""
+"""Refusals 1 to 15 of an opening, over the tables of a text or a sheet, in the library's order."""
 import math
 
 from .floats import bits32, float32, float64, float_text
@@ -112,8 +112,9 @@ def event_findings(row, event):
     for k in range(first * TRANSITION, (first + count) * TRANSITION, TRANSITION):
         target, word = tables.transitions[k:k + TRANSITION]
         for number, reason in transition_findings(row, event, target, word, seen):
-            judged = judged and number not in (9, 12)
-            yield number, tables.lines["transition"][k], reason
+            second = number in (9, 12)  # of the row's words: the probability
+            judged = judged and not second
+            yield number, tables.lines["transition"][k + second], reason
         seen.add(target)
         if judged:
             total = float32(bits32(total + float32(word)))  # the sum of two f32 is rounded once

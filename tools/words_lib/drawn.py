@@ -1,9 +1,9 @@
 """Random streams of words, and valid tables with damages, for the tests. 'r' is a random.Random."""
 from .floats import Bad, bits32, bits64 as bits
 from .layout import (COPY, COUNTER_DIST, COUNTERS, EVENTS, FIRST_STATE, FLAGS_AT, MACHINE_MAX, PLACES, STATE, STATE_MAX, STATES,
-                     TARGETS, TIMER_AT, dist_places, pair)
+                     TARGETS, TIMER_AT, WIDTHS, dist_places, pair)
 from .printing import decode
-from .reading import encode
+from .reading import Text, encode
 
 INF, NAN = bits(float("inf")), 0x7ff8000000000000
 BEYOND = [bits(x) for x in (-0.5, -5e-324, 1.0000000000000002, 7.0, float("inf"), float("-inf"))]
@@ -63,6 +63,34 @@ def any_words(r):
     n, calls = any_calls(r)
     header = [any_float(r), any_float(r), r.getrandbits(r.choice([4, 64])), len(machines) // 6, len(states) // 58, len(rows) // 2]
     return header + [len(chances), len(values), n] + machines + states + rows + chances + values + calls
+
+
+def any_tables(r):
+    """Rows of any words, raw: some of each kind, or none."""
+    text = Text("")
+    for kind, width in WIDTHS.items():
+        for _ in range(r.randrange(4)):
+            row = [r.choice([r.choice(EDGES), r.getrandbits(r.randrange(1, 65))]) for _ in range(width)]
+            text.raw.append((kind, row, [None] * width))
+    return text.tables()
+
+
+# ---- sheets
+
+def damaged_sheet(r, sheet):
+    """A sheet's bytes with some bytes changed, put in or taken out, or some lines moved."""
+    for _ in range(r.choice([1, 1, 2])):
+        lines = sheet.splitlines(keepends=True)
+        kind, at = r.randrange(5), r.randrange(len(sheet) + 1)
+        if kind == 0:
+            r.shuffle(lines)
+            sheet = b"".join(lines)
+        elif kind == 1:
+            sheet = sheet[:at] if r.random() < 0.5 else b"".join(lines[:r.randrange(len(lines) + 1)])
+        else:
+            new = r.choice([b" ", b"0", b"1", b"9", b"\n", b"\r", b"x", b"\t", b"\xff", b"_", b"+", b""])
+            sheet = sheet[:at] + new + sheet[at + (kind < 4):]
+    return sheet
 
 
 # ---- valid tables

@@ -10,7 +10,7 @@ SPECIAL = ("inf", "-inf", "nan")
 
 
 class Bad(Exception):
-    """What is wrong, and the line (text) where it stands."""
+    """What is wrong, and the line where it stands: its number in a text, 'LINE:COLUMN' in a sheet."""
 
     def __init__(self, what, line=None):
         super().__init__(what)

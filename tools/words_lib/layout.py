@@ -46,6 +46,11 @@ def pair(event):
     return ON + 2 * event
 
 
+def row_list(table, kind):
+    """The rows of a table."""
+    return [table[k:k + WIDTHS[kind]] for k in range(0, len(table), WIDTHS[kind])]
+
+
 def dist_places():
     """Where the distributions of a state row begin."""
     return [*PLACES.values(), *(at + COUNTER_DIST for at in COUNTERS.values())]

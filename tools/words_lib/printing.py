@@ -2,7 +2,7 @@
 from .floats import Bad, float_text
 from .layout import (ACTION_AT, ACTIONS, ALLOWANCES, BOUNDS, CANCEL, COPY, COUNTER_DIST, COUNTERS, DIST, EVENTS, FIRST_STATE,
                      FLAGS, FLAGS_AT, FRACTIONS, HEADER, KINDS, MACHINE, OPERATIONS, PLACES, STATE, STATES, TARGETS, TIMER_AT,
-                     TIMERS, TRANSITION, TRIGGERS, UNIFORM, WITH_MACHINE, pair)
+                     TIMERS, TRANSITION, TRIGGERS, UNIFORM, WIDTHS, WITH_MACHINE, pair, row_list)
 from .reading import Line, State
 
 
@@ -144,11 +144,13 @@ def machine_text(p, m):
 def tables_text(p):
     if canonical(p):
         return [line for m in range(0, len(p.machines), MACHINE) for line in machine_text(p, m)]
-    lines = []
-    for kind, table, width in (("machine", p.machines, MACHINE), ("state", p.states, STATE),
-                               ("transition", p.transitions, TRANSITION)):
-        lines += [f"raw {kind} " + " ".join(map(str, table[k:k + width])) for k in range(0, len(table), width)]
-    return lines
+    tables = zip(WIDTHS, (p.machines, p.states, p.transitions))
+    return [f"raw {kind} " + " ".join(map(str, row)) for kind, table in tables for row in row_list(table, kind)]
+
+
+def describe(p):
+    """A text of the tables alone."""
+    return "".join(f"{line}\n" for line in tables_text(p)).lstrip("\n")
 
 
 # ---- a stream of words

@@ -249,7 +249,7 @@ class Text:
 
     def __init__(self, text):
         self.framework, self.machines = Framework(), []
-        self.raw = []  # (kind, row, line)
+        self.raw = []  # (kind, row, the line of each of its words)
         self.chances, self.values, self.calls = [], [], []
         self.said = {}
         self.section = None  # what takes the next statement
@@ -303,7 +303,7 @@ class Text:
         row = [whole(t, "word", line.number) for t in line.rest()]
         if len(row) != WIDTHS[kind]:
             raise Bad(f"a {kind} row has {WIDTHS[kind]} words, and here are {len(row)}", line.number)
-        self.raw.append((kind, row, line.number))
+        self.raw.append((kind, row, [line.number] * len(row)))
 
     def draws(self, key, line, size, below):
         texts = [line.next("a draw")] + line.rest()
@@ -314,9 +314,9 @@ class Text:
         tables = Tables(self.framework, bool(self.raw))
         for machine in self.machines:
             tables.add_machine(machine)
-        for kind, row, line in self.raw:
+        for kind, row, lines in self.raw:
             label = f"{'machine' if kind == 'machine' else kind + ' row'} {tables.rows(kind)}"
-            tables.add(kind, row, [line] * len(row), label)
+            tables.add(kind, row, lines, label)
         return tables
 
     def words(self):

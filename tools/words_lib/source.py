@@ -3,7 +3,7 @@ import math
 import re
 
 from .floats import Bad, float64, float_text
-from .layout import BOUNDS, COUNTERS, FRACTIONS, ON, PLACES, WIDTHS, dist_places
+from .layout import BOUNDS, COUNTERS, FRACTIONS, ON, PLACES, WIDTHS, dist_places, row_list
 
 IDENTIFIER = re.compile(r"[A-Za-z_][A-Za-z0-9_]*")
 FLOATS = {"machine": set(FRACTIONS.values()), "state": {at + k for at in dist_places() for k in BOUNDS.values()},
@@ -34,10 +34,9 @@ def row_lines(kind, row, comment):
 
 def table_lines(tables, kind, comment):
     """A table's rows, each behind a comment that names it."""
-    width, table = WIDTHS[kind], tables.table(kind)
-    for k in range(tables.rows(kind)):
-        yield "   " + comment(tables.labels[kind][k])
-        yield from row_lines(kind, table[k * width:(k + 1) * width], comment)
+    for label, row in zip(tables.labels[kind], row_list(tables.table(kind), kind)):
+        yield "   " + comment(label)
+        yield from row_lines(kind, row, comment)
 
 
 def fraction(tables, name):

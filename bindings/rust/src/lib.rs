@@ -103,6 +103,7 @@ mod framework;
 mod refusal;
 mod rows;
 mod sampling;
+mod sheet;
 mod tables;
 
 pub mod action;

@@ -69,6 +69,8 @@ refusals! {
     18 FrameworkMisfit "the framework is not one of these tables";
     19 EventList "the event list has an odd number of words or a kind above 9";
     20 OutputSize "the output is shorter than a row for each machine";
+    22 SheetForm "a line of the sheet is malformed or misplaced";
+    23 SheetRoom "a lent table or the lent sheet is too small";
 }
 
 impl fmt::Display for Refusal {

@@ -1,9 +1,9 @@
 //! The C interface as it is: the structs of `bindings/c/maybenot.h` word for word, and its functions
 //! over slices.
 //!
-//! These functions are safe: whatever words, floats and lengths they are lent, they end, stay inside
-//! what they were lent and answer with a refusal where it does not fit. All lengths are free, so this
-//! is the layer at which an odd event list or a short output can be tried.
+//! These functions are safe: whatever words, floats, bytes and lengths they are lent, they end, stay
+//! inside what they were lent and answer with a refusal where it does not fit. All lengths are free, so
+//! this is the layer at which an odd event list or a short output can be tried.
 
 use std::mem::{offset_of, size_of};
 
@@ -18,6 +18,16 @@ pub const MACHINE_WORDS: usize = 6;
 pub const STATE_WORDS: usize = 58;
 /// Words of a row of the transition table.
 pub const TRANSITION_WORDS: usize = 2;
+/// Columns of a line's kind in a sheet.
+pub const KIND_COLUMNS: usize = 4;
+/// Columns of a word in a sheet.
+pub const WORD_COLUMNS: usize = 21;
+/// Bytes of a machine's line in a sheet, with its line feed.
+pub const MACHINE_LINE: usize = line(MACHINE_WORDS);
+/// Bytes of a state's line.
+pub const STATE_LINE: usize = line(STATE_WORDS);
+/// Bytes of a transition's line.
+pub const TRANSITION_LINE: usize = line(TRANSITION_WORDS);
 /// Words of an event.
 pub const EVENT_WORDS: usize = 2;
 /// Words of a row of the output.
@@ -108,6 +118,30 @@ pub struct Reply {
     pub value_used: u64,
 }
 
+/// The answer of a sheet's reader.
+#[repr(C)]
+#[derive(Debug, Clone, Copy, PartialEq, Eq, Hash)]
+pub struct SheetRows {
+    /// The refusal, or 0.
+    pub refusal: u64,
+    /// How many rows were read into the machine table.
+    pub machines: u64,
+    /// How many rows were read into the state table.
+    pub states: u64,
+    /// How many rows were read into the transition table.
+    pub transitions: u64,
+}
+
+/// The answer of a sheet's writer.
+#[repr(C)]
+#[derive(Debug, Clone, Copy, PartialEq, Eq, Hash)]
+pub struct SheetBytes {
+    /// The refusal, or 0.
+    pub refusal: u64,
+    /// How many bytes were written.
+    pub bytes: u64,
+}
+
 /// The three tables, lent.
 #[derive(Debug, Clone, Copy)]
 pub struct Words<'a> {
@@ -117,6 +151,11 @@ pub struct Words<'a> {
     pub states: &'a [u64],
     /// The transition table, [`TRANSITION_WORDS`] a row.
     pub transitions: &'a [u64],
+}
+
+/// Bytes of the line of a row of so many words.
+const fn line(words: usize) -> usize {
+    KIND_COLUMNS + WORD_COLUMNS * words + 1
 }
 
 // The numbers of maybenot.h and its test.
@@ -159,6 +198,20 @@ const _: () = {
     assert!(offset_of!(Reply, actions) == 8);
     assert!(offset_of!(Reply, chance_used) == 16);
     assert!(offset_of!(Reply, value_used) == 24);
+
+    assert!(size_of::<SheetRows>() == 32);
+    assert!(offset_of!(SheetRows, refusal) == 0);
+    assert!(offset_of!(SheetRows, machines) == 8);
+    assert!(offset_of!(SheetRows, states) == 16);
+    assert!(offset_of!(SheetRows, transitions) == 24);
+
+    assert!(size_of::<SheetBytes>() == 16);
+    assert!(offset_of!(SheetBytes, refusal) == 0);
+    assert!(offset_of!(SheetBytes, bytes) == 8);
+
+    assert!(MACHINE_LINE == 131);
+    assert!(STATE_LINE == 1223);
+    assert!(TRANSITION_LINE == 47);
 };
 
 impl Framework {
@@ -176,8 +229,17 @@ impl Framework {
     }
 }
 
+impl Words<'_> {
+    /// Bytes of the sheet of these tables: the room that [`sheet_write`] needs.
+    pub fn sheet_len(&self) -> usize {
+        self.machines.len() / MACHINE_WORDS * MACHINE_LINE
+            + self.states.len() / STATE_WORDS * STATE_LINE
+            + self.transitions.len() / TRANSITION_WORDS * TRANSITION_LINE
+    }
+}
+
 mod c {
-    use super::{Framework, Opened, Reply};
+    use super::{Framework, Opened, Reply, SheetBytes, SheetRows};
 
     extern "C" {
         pub fn maybenot_opening(
@@ -214,6 +276,28 @@ mod c {
         ) -> Reply;
 
         pub fn maybenot_all_machines_ended(framework: *const Framework) -> bool;
+
+        pub fn maybenot_sheet_read(
+            sheet: *const u8,
+            sheet_len: usize,
+            machines: *mut u64,
+            machines_len: usize,
+            states: *mut u64,
+            states_len: usize,
+            transitions: *mut u64,
+            transitions_len: usize,
+        ) -> SheetRows;
+
+        pub fn maybenot_sheet_write(
+            machines: *const u64,
+            machines_len: usize,
+            states: *const u64,
+            states_len: usize,
+            transitions: *const u64,
+            transitions_len: usize,
+            sheet: *mut u8,
+            sheet_len: usize,
+        ) -> SheetBytes;
 
         pub fn maybenot_interface_1() -> u64;
     }
@@ -295,4 +379,48 @@ pub fn batch(
 pub fn all_machines_ended(framework: &Framework) -> bool {
     // SAFETY: the function reads the framework alone, and every pattern of words is a value of it.
     unsafe { c::maybenot_all_machines_ended(framework) }
+}
+
+/// Reads a sheet into the tables, whose words behind what was read stay. It judges the form of the sheet
+/// alone (22), then the room (23). A refused call leaves the tables as they were.
+pub fn sheet_read(
+    sheet: &[u8],
+    machines: &mut [u64],
+    states: &mut [u64],
+    transitions: &mut [u64],
+) -> SheetRows {
+    // SAFETY: each pointer comes with the length of its slice; the function reads inside the sheet alone
+    // and writes inside the tables, which are lent to nobody else.
+    unsafe {
+        c::maybenot_sheet_read(
+            sheet.as_ptr(),
+            sheet.len(),
+            machines.as_mut_ptr(),
+            machines.len(),
+            states.as_mut_ptr(),
+            states.len(),
+            transitions.as_mut_ptr(),
+            transitions.len(),
+        )
+    }
+}
+
+/// Writes the sheet of the tables, whatever their words; the bytes behind it stay. Tables that are not
+/// whole rows are refused (3), then a sheet that is too small (23). A refused call leaves the sheet as
+/// it was.
+pub fn sheet_write(tables: Words<'_>, sheet: &mut [u8]) -> SheetBytes {
+    // SAFETY: each pointer comes with the length of its slice; the function reads inside these alone
+    // and writes inside the sheet, which is lent to nobody else.
+    unsafe {
+        c::maybenot_sheet_write(
+            tables.machines.as_ptr(),
+            tables.machines.len(),
+            tables.states.as_ptr(),
+            tables.states.len(),
+            tables.transitions.as_ptr(),
+            tables.transitions.len(),
+            sheet.as_mut_ptr(),
+            sheet.len(),
+        )
+    }
 }

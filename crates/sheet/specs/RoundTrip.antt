@@ -1,5 +1,4 @@
 -- What is written reads back, and what is read is what would be written.
-pub mod Tests
 pub mod U64
 pub mod Pieces
 pub mod Cells

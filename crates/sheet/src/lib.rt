@@ -14,7 +14,7 @@ ghost use Rattle.sheet.specs.Reader.{noRows, roomFor, sheetRead};
 ghost use Rattle.sheet.specs.Writer.{wholeRows, sheetWrite};
 
 mod cell; // a word in its columns
-mod line; // the columns of a line
+pub mod line; // the columns of a line
 mod reading; // lines to rows
 mod writing; // rows to lines
 

@@ -1,7 +1,7 @@
 -- The calls of the writer and of the reader: what is known where one is not refused, and what it then answers and leaves.
 use Prim.Native.Nat.{ℕ, _*_, _%_, _≤_, _<_}
 use mathlib.Core.Path.{_≡_, refl}
-use mathlib.Core.Bool.{Bool, true, false, cond, _&&_}
+use mathlib.Core.Bool.{Bool, true, false, cond, _&&_, and-eq-true-iff}
 use mathlib.Core.List.{List}
 use native.Mathlib.Omega.{arith}
 use lib.Dec.{eqb, leb, lit<}
@@ -11,7 +11,6 @@ use Rattle.machine.specs.Constants.{machineWords, stateWords, transitionWords}
 use Rattle.sheet.specs.Sheet.{sheetOf}
 use Rattle.sheet.specs.Writer.{wholeRows, writeRefusal, over, sheetWrite}
 use Rattle.sheet.specs.Reader.{machineLines, stateLines, transitionLines, formOf, roomFor, readRefusal, sheetRead}
-use Rattle.sheet.specs.RoundTrip.Tests.{both}
 use Rattle.sheet.specs.RoundTrip.U64.{Words}
 use Rattle.sheet.specs.RoundTrip.Form.{Sound, machinesOf, statesOf, transitionsOf}
 
@@ -41,8 +40,8 @@ module _ (m s t sheet : List ℕ) where
       let c = eqb (length t % transitionWords) 0 in
       let room = leb (length (sheetOf m s t)) (length sheet) in
       let g = passed (a && (b && c)) (cond room 0 23) 3 (lit< tt) (not-refused h) in
-      let ab = both a (b && c) (g .0) in
-      let bc = both b c (ab .1) in (
+      let ab = and-eq-true-iff a (b && c) .0 (g .0) in
+      let bc = and-eq-true-iff b c .0 (ab .1) in (
         record {
           machine-rows = eqb-true (length m % machineWords) 0 (ab .0);
           state-rows = eqb-true (length s % stateWords) 0 (bc .0);

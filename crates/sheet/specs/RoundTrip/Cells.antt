@@ -5,49 +5,29 @@ use mathlib.Core.Bool.{true}
 use mathlib.Core.List.{List, [], _∷_, _++_, append-nil}
 use native.Mathlib.Omega.{arith}
 use native.Mathlib.Nat.{add-zero}
-use lib.Dec.{ltb, lit<}
+use lib.Dec.{lit<}
 use lib.ListN.{length, take, getD, length-append}
-use borrow.Author.Tests.{ltb-true, lt-ltb}
 use Rattle.text.specs.Columns.{right}
-use Rattle.text.specs.Fits.{readBack, reads-back}
 use Rattle.text.proofs.Cells.{length-right}
 use Rattle.sheet.specs.Sheet.{each, wordColumns, cells}
-use Rattle.sheet.specs.Reader.{same, leading, isCell, cellOf, wordIn}
-use Rattle.sheet.specs.Laws.{same-refl, same-true}
-use Rattle.sheet.specs.RoundTrip.Tests.{both}
+use Rattle.sheet.specs.Reader.{leading, isCell, cellOf, wordIn}
+use Rattle.sheet.specs.Laws.{cell-columns, columns-cell, spells}
 use Rattle.sheet.specs.RoundTrip.U64.{Words, one-word}
 use Rattle.sheet.specs.RoundTrip.Pieces.{Kept, Exact, Found, leading-written, table-written, found}
 
 -- ---- one cell
 
--- a u64 fits a word's columns
-reads : (n : ℕ) → n < 2 ^ 64 → readBack (right wordColumns n) ≡ n
-reads n h = reads-back wordColumns n (lit< tt) (omega (arith, lit< {m = 2 ^ 64} {n = 10 ^ wordColumns} tt))
-
-pub written-is-cell : (n : ℕ) → n < 2 ^ 64 → isCell (right wordColumns n) ≡ true
-unfolding isCell
-written-is-cell n h = rw (reads n h, lt-ltb n (2 ^ 64) h) (same-refl (right wordColumns n))
-
 pub written-reads : (n : ℕ) → n < 2 ^ 64 → cellOf (right wordColumns n) .word ≡ n
 unfolding cellOf
-written-reads n h = rw (written-is-cell n h) (reads n h)
-
--- the two tests of a cell
-tests : (bytes : List ℕ) → isCell bytes ≡ true
-    → (readBack bytes < 2 ^ 64) × (bytes ≡ right wordColumns (readBack bytes))
-unfolding isCell
-tests bytes h =
-    let number = readBack bytes in
-    let b = both (ltb number (2 ^ 64)) (same bytes (right wordColumns number)) h in
-    (ltb-true number (2 ^ 64) (b .0), same-true bytes (right wordColumns number) (b .1))
+written-reads n h = rw (columns-cell n h) (spells n h)
 
 pub cell-is-written : (bytes : List ℕ) → isCell bytes ≡ true → right wordColumns (cellOf bytes .word) ≡ bytes
 unfolding cellOf
-cell-is-written bytes h = rw h (sym (tests bytes h .1))
+cell-is-written bytes h = rw h (sym (cell-columns bytes h .0))
 
 pub cell-is-u64 : (bytes : List ℕ) → isCell bytes ≡ true → cellOf bytes .word < 2 ^ 64
 unfolding cellOf
-cell-is-u64 bytes h = rw h (tests bytes h .0)
+cell-is-u64 bytes h = rw h (cell-columns bytes h .1)
 
 -- ---- the cells of a row are pieces of one word
 
@@ -69,7 +49,7 @@ row-of-one (word ∷ (next ∷ row)) l = absurd (omega (arith, l))
 kept : Kept cells wordIn isCell 1 wordColumns
 kept = record {
   long = λ row l. length-cells row ∙ omega (arith, l);
-  passes = λ row l h. rw (row-of-one row l, one-cell (getD row 0 0)) (written-is-cell (getD row 0 0) (h 0));
+  passes = λ row l h. rw (row-of-one row l, one-cell (getD row 0 0)) (columns-cell (getD row 0 0) (h 0));
   back = λ row l h. rw (row-of-one row l, one-cell (getD row 0 0), written-reads (getD row 0 0) (h 0));
 }
 

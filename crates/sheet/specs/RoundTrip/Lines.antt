@@ -1,7 +1,7 @@
 -- The line of a row: what is written for a row is a line, which reads back as it, and a line is what is written for its words.
-use Prim.Native.Nat.{ℕ, suc, _+_, _*_, _≤_, _<_}
+use Prim.Native.Nat.{ℕ, zero, suc, _+_, _*_, _≤_, _<_}
 use mathlib.Core.Path.{_≡_, refl, _∙_}
-use mathlib.Core.Bool.{true, _&&_}
+use mathlib.Core.Bool.{true, _&&_, and-eq-true-iff}
 use mathlib.Core.List.{List, [], _∷_, _++_, append-assoc}
 use native.Mathlib.Omega.{arith}
 use lib.Dec.{eqb, lit<}
@@ -13,10 +13,15 @@ use Rattle.text.proofs.Cells.{length-right}
 use Rattle.sheet.specs.Sheet.{kindColumns, wordColumns, lineBytes, cells, lineOf}
 use Rattle.sheet.specs.Reader.{same, leading, isCell, isLine, wordsOf}
 use Rattle.sheet.specs.Laws.{same-refl, same-true}
-use Rattle.sheet.specs.RoundTrip.Tests.{both, inside}
 use Rattle.sheet.specs.RoundTrip.U64.{Words}
 use Rattle.sheet.specs.RoundTrip.Cells.{length-cells, row-found, row-read, row-again}
 use Rattle.sheet.specs.RoundTrip.Pieces.{Kept, Exact}
+
+-- an element that is not 0 stands inside
+inside : (xs : List ℕ) (i n : ℕ) → 0 < n → getD xs i 0 ≡ n → i < length xs
+inside [] i n l h = absurd (omega (arith, l, h))
+inside (x ∷ xs) zero n l h = omega arith
+inside (x ∷ xs) (suc i) n l h = omega (arith, inside xs i n l h)
 
 -- ---- one line
 
@@ -76,8 +81,8 @@ module _ (kind w : ℕ) where
   tests line h =
       let count = leading isCell wordColumns w (drop kindColumns line) in
       let last = getD line (kindColumns + wordColumns * w) 0 in
-      let a = both (same (take kindColumns line) (right kindColumns kind)) (eqb count w && eqb last 10) h in
-      let b = both (eqb count w) (eqb last 10) (a .1) in
+      let a = and-eq-true-iff (same (take kindColumns line) (right kindColumns kind)) (eqb count w && eqb last 10) .0 h in
+      let b = and-eq-true-iff (eqb count w) (eqb last 10) .0 (a .1) in
       record {
         front = same-true (take kindColumns line) (right kindColumns kind) (a .0);
         middle = eqb-true count w (b .0);

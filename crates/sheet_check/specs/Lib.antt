@@ -1,0 +1,3 @@
+-- What the program says of a sheet.
+pub mod Verdict
+pub mod Opening
