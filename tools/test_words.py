@@ -1,7 +1,7 @@
 #!/usr/bin/env python3
-"""test_words.py [LINKRUN] [TEST ..]: tests of tools/words, and of tools/fuzz by way of test_fuzz.py.
+"""test_words.py [PROGRAM ..] [TEST ..]: tests of tools/words, and of tools/fuzz by way of test_fuzz.py.
 
-Where LINKRUN, the path of the program linkrun, is given, its answers are compared with what 'check' finds."""
+Where a PROGRAM is given, the path of linkrun or of sheet_check, its answers are compared with what 'check' finds."""
 import pathlib
 import random
 import re
@@ -20,7 +20,7 @@ from words_lib import drawn  # noqa: E402
 from words_lib.check import findings  # noqa: E402
 from words_lib.drawn import bits  # noqa: E402
 from words_lib.floats import Bad, float_text, nearest32  # noqa: E402
-from words_lib.layout import ACTIONS, EVENTS, KINDS, LINKRUN_MAX, OPERATIONS, TIMERS  # noqa: E402
+from words_lib.layout import ACTIONS, EVENTS, KINDS, LINKRUN_MAX, OPERATIONS, TIMERS, WIDTHS  # noqa: E402
 from words_lib.printing import decode, describe  # noqa: E402
 from words_lib.reading import Tables, Text, encode  # noqa: E402
 from words_lib.sheet import is_sheet, read_sheet, sheet_of  # noqa: E402
@@ -30,7 +30,7 @@ ROOT = HERE.parent
 EXAMPLES = sorted((ROOT / "examples").glob("*.txt"))
 PRINTED = sorted((ROOT / "reference/corpus/printed").glob("*.in"))
 HEAD = "machine\n state a\n"
-LINKRUN = None
+PROGRAMS = {}
 
 
 def packed(words):
@@ -49,6 +49,10 @@ def worked():
     state[32 + 2 * 3:32 + 2 * 3 + 2] = [0, 1]
     header = [0, 0, 0, 1, 1, 1, 1, 0, 1]
     return header + [0, 0, 0, 0, 0, 1] + state + [0, 0x3f800000] + [0x3e800000] + [5, 1, 3, 0]
+
+
+def answer_of(program, data):
+    return subprocess.run([PROGRAMS[program]], input=data, capture_output=True, timeout=60, check=True).stdout
 
 
 def found(text):
@@ -347,13 +351,13 @@ class AgreementTest(unittest.TestCase):
     """Check's first finding is linkrun's refusal of call 0."""
 
     def setUp(self):
-        if LINKRUN is None:
+        if "linkrun" not in PROGRAMS:
             self.skipTest("no linkrun given")
         self.numbers = {}
 
     def agrees(self, text):
         data = packed(encode(text))
-        printed = subprocess.run([LINKRUN], input=data, capture_output=True, timeout=60).stdout
+        printed = answer_of("linkrun", data)
         refusal = int(printed.split()[1])
         self.assertEqual(first_refusal(text), refusal if refusal < 16 else 0, f"linkrun answers {refusal}:\n{text}")
         self.numbers[refusal] = self.numbers.get(refusal, 0) + 1
@@ -381,6 +385,55 @@ class AgreementTest(unittest.TestCase):
             self.agrees(drawn.damaged_text(r))
         self.assertGreater(len(self.numbers), 6)
         self.report("texts")
+
+
+class SheetAgreementTest(unittest.TestCase):
+    """The line of sheet_check is that of what tools/words reads, and of check's first finding."""
+
+    def setUp(self):
+        if "sheet_check" not in PROGRAMS:
+            self.skipTest("no sheet_check given")
+        self.numbers = {}
+
+    def agrees(self, data):
+        try:
+            tables = read_sheet(data).tables()
+        except Bad:
+            numbers = (22, 0, 0, 0, 0)
+        else:
+            rows = (tables.rows(kind) for kind in WIDTHS)
+            numbers = (0, *rows, next((number for number, _, _ in findings(tables)), 0))
+        line = "".join(str(n).rjust(columns) for n, columns in zip(numbers, (4, 8, 8, 8, 4))) + "\n"
+        self.assertEqual(answer_of("sheet_check", data).decode(), line, data)
+        verdict = (numbers[0], numbers[4])
+        self.numbers[verdict] = self.numbers.get(verdict, 0) + 1
+
+    def test_kept(self):
+        for path in (ROOT / "examples").glob("*.sheet"):
+            self.agrees(path.read_bytes())
+
+    def test_damaged_tables(self):
+        r = random.Random(7)
+        for number in drawn.DAMAGES:
+            for _ in range(3):
+                t = drawn.Drawn(r)
+                r.choice(drawn.DAMAGES[number])(r, t)
+                self.agrees(sheet_of(Text(decode(t.words())).tables()).encode())
+        self.assertLessEqual({(0, n) for n in range(3, 16)}, set(self.numbers))
+
+    def test_damaged_sheets(self):
+        r = random.Random(8)
+        for _ in range(300):
+            self.agrees(drawn.damaged_sheet(r, sheet_of(drawn.any_tables(r)).encode()))
+        malformed = self.numbers.get((22, 0), 0)
+        self.assertGreater(min(malformed, sum(self.numbers.values()) - malformed), 30)
+
+    def test_sizes(self):
+        line = sheet_line(3, 0, 0).encode()
+        for count in (0, 262144 // len(line)):
+            self.agrees(line * count)
+        large = line * (262144 // len(line) + 1)
+        self.assertEqual(answer_of("sheet_check", large), b"  23       0       0       0   0\n")
 
 
 # ---- sheets, in columns that are put together here
@@ -745,12 +798,11 @@ class SourceTest(unittest.TestCase):
 
 
 def main():
-    global LINKRUN
     programs = [arg for arg in sys.argv[1:] if "/" in arg]
     for program in programs:
         if not shutil.which(program):
             sys.exit(f"{program}: no such program")
-        LINKRUN = str(pathlib.Path(program).resolve())
+        PROGRAMS[pathlib.Path(program).name] = str(pathlib.Path(program).resolve())
     unittest.main(argv=[arg for arg in sys.argv if arg not in programs or arg == sys.argv[0]])
 
 

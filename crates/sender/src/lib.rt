@@ -8,8 +8,8 @@ ghost use Rattle.steps.specs.Framework as Spec;
 ghost use mathlib.Core.List.{[]};
 ghost use Rattle.machine.specs.Source.{tapes};
 ghost use Rattle.events.specs.Run.{tables};
-ghost use Rattle.sheet.specs.Reader.{sheetRead};
-ghost use Rattle.sheet.specs.Writer.{sheetWrite};
+ghost use Rattle.sheet.specs.Reader.{Reads};
+ghost use Rattle.sheet.specs.Writer.{Writes};
 ghost use Rattle.sender.specs.Reply.{Promised};
 
 // A batch's answer without its framework: the refusal or 0, how many rows it wrote, and how many
@@ -110,10 +110,8 @@ pub extern "C" fn maybenot_sheet_read(
     states: &mut [u64],
     transitions: &mut [u64],
 ) -> SheetRows
-    ensures { λ r. ⌜ (
-        let R = sheetRead (now (sheet .entry)) (now (machines .entry)) (now (states .entry)) (now (transitions .entry)) in
-        (r ≡ R .answer) × (now (machines .exit) ≡ R .machines) × (now (states .exit) ≡ R .states)
-        × (now (transitions .exit) ≡ R .transitions)) ⌝ }
+    ensures { λ r. ⌜ Reads (now (sheet .entry)) (now (machines .entry)) (now (states .entry)) (now (transitions .entry))
+        r (now (machines .exit)) (now (states .exit)) (now (transitions .exit)) ⌝ }
 {
     sheet::read(sheet, machines, states, transitions)
 }
@@ -126,9 +124,8 @@ pub extern "C" fn maybenot_sheet_write(
     transitions: &[u64],
     sheet: &mut [u8],
 ) -> SheetBytes
-    ensures { λ r. ⌜ (
-        let W = sheetWrite (now (machines .entry)) (now (states .entry)) (now (transitions .entry)) (now (sheet .entry)) in
-        (r ≡ W .answer) × (now (sheet .exit) ≡ W .sheet)) ⌝ }
+    ensures { λ r. ⌜ Writes (now (machines .entry)) (now (states .entry)) (now (transitions .entry)) (now (sheet .entry))
+        r (now (sheet .exit)) ⌝ }
 {
     sheet::write(machines, states, transitions, sheet)
 }

@@ -9,8 +9,8 @@ use borrow.Author.Tests.{leb-true}
 use lib.Dec.{leb}
 use Rattle.machine.specs.Constants.{machineWords, stateWords, transitionWords}
 use Rattle.sheet.specs.Sheet.{bytesOf, sheetOf}
-use Rattle.sheet.specs.Writer.{wholeRows, writeRefusal, over, Written, sheetWrite}
-use Rattle.sheet.specs.Reader.{tableOf, machineLines, stateLines, transitionLines, behindMachines, behindStates, formOf, roomFor, readRefusal, noRows, Read, sheetRead}
+use Rattle.sheet.specs.Writer.{wholeRows, writeRefusal, over, Written, sheetWrite, Writes}
+use Rattle.sheet.specs.Reader.{tableOf, machineLines, stateLines, transitionLines, behindMachines, behindStates, formOf, roomFor, readRefusal, noRows, Read, sheetRead, Reads}
 use Rattle.sheet.specs.RoundTrip.Form.{length-machines, length-states, length-transitions}
 use Rattle.sheet.specs.RoundTrip.Calls.{reads}
 use Rattle.sheet.proofs.Written.{length-sheet}
@@ -33,14 +33,9 @@ fits rows m s t h =
     (leb-true _ _ (g .0), leb-true _ _ (k .0), leb-true _ _ (k .1))
 
 module _ (sheet m s t : List ℕ) where
-  -- the answer and the three tables are those of the definition
-  abbrev Leaves : SheetRows → List ℕ → List ℕ → List ℕ → Type 0
-  Leaves r x y z =
-      let R = sheetRead sheet m s t in (r ≡ R .answer) × (x ≡ R .machines) × (y ≡ R .states) × (z ≡ R .transitions)
-
   leaves : (r : SheetRows) (x y z : List ℕ)
       → sheetRead sheet m s t ≡ record { answer = r; machines = x; states = y; transitions = z }
-      → Leaves r x y z
+      → Reads sheet m s t r x y z
   leaves r x y z e = (
     sym (ap (λ (q : Read). q .answer) e),
     sym (ap (λ (q : Read). q .machines) e),
@@ -48,13 +43,13 @@ module _ (sheet m s t : List ℕ) where
     sym (ap (λ (q : Read). q .transitions) e),
   )
 
-  pub malformed : (rows : Form) → rows ≡ formOf sheet → rows .whole ≡ false → Leaves (noRows 22) m s t
+  pub malformed : (rows : Form) → rows ≡ formOf sheet → rows .whole ≡ false → Reads sheet m s t (noRows 22) m s t
   unfolding sheetRead readRefusal roomFor
   malformed rows is w = leaves (noRows 22) m s t (rw (← is, w))
 
   pub no-room : (rows : Form) → rows ≡ formOf sheet → rows .whole ≡ true
       → roomFor rows (length m) (length s) (length t) ≡ false
-      → Leaves (noRows 23) m s t
+      → Reads sheet m s t (noRows 23) m s t
   unfolding sheetRead readRefusal roomFor
   no-room rows is w f = leaves (noRows 23) m s t (rw (← is, w, f))
 
@@ -69,7 +64,7 @@ module _ (sheet m s t : List ℕ) where
       → x ≡ tableOf machineWords (rows .machines) sheet ++ drop (machineWords * rows .machines) m
       → y ≡ tableOf stateWords (rows .states) (behindMachines sheet) ++ drop (stateWords * rows .states) s
       → z ≡ tableOf transitionWords (rows .transitions) (behindStates sheet) ++ drop (transitionWords * rows .transitions) t
-      → Leaves (record { refusal = 0; machines = rows .machines; states = rows .states; transitions = rows .transitions }) x y z
+      → Reads sheet m s t (record { refusal = 0; machines = rows .machines; states = rows .states; transitions = rows .transitions }) x y z
   unfolding formOf
   read-rows rows x y z is w f ex ey ez =
       let a : rows .machines ≡ machineLines sheet = ap (λ (q : Form). q .machines) is in
@@ -82,10 +77,7 @@ module _ (sheet m s t : List ℕ) where
 -- ---- the writer
 
 module _ (m s t sheet : List ℕ) where
-  abbrev Writes : SheetBytes → List ℕ → Type 0
-  Writes r x = let W = sheetWrite m s t sheet in (r ≡ W .answer) × (x ≡ W .sheet)
-
-  writes : (r : SheetBytes) (x : List ℕ) → sheetWrite m s t sheet ≡ record { answer = r; sheet = x } → Writes r x
+  writes : (r : SheetBytes) (x : List ℕ) → sheetWrite m s t sheet ≡ record { answer = r; sheet = x } → Writes m s t sheet r x
   writes r x e = (sym (ap (λ (q : Written). q .answer) e), sym (ap (λ (q : Written). q .sheet) e))
 
   -- room for the lines is room for the sheet
@@ -94,14 +86,14 @@ module _ (m s t sheet : List ℕ) where
   room b e = rw (length-sheet m s t) (sym e)
 
   pub not-rows : (b : Bool) → b ≡ wholeRows (length m) (length s) (length t) → b ≡ false
-      → Writes (record { refusal = 3; bytes = 0 }) sheet
+      → Writes m s t sheet (record { refusal = 3; bytes = 0 }) sheet
   unfolding sheetWrite writeRefusal wholeRows
   not-rows b e w = writes _ _ (rw (← e, w))
 
   pub no-space : (b d : Bool) → b ≡ wholeRows (length m) (length s) (length t) → b ≡ true
       → d ≡ leb (bytesOf (length m / machineWords) (length s / stateWords) (length t / transitionWords)) (length sheet)
       → d ≡ false
-      → Writes (record { refusal = 23; bytes = 0 }) sheet
+      → Writes m s t sheet (record { refusal = 23; bytes = 0 }) sheet
   unfolding sheetWrite writeRefusal wholeRows
   no-space b d e w f g = writes _ _ (rw (← e, w, room d f, g))
 
@@ -110,6 +102,6 @@ module _ (m s t sheet : List ℕ) where
       → d ≡ true
       → r ≡ length (sheetOf m s t)
       → x ≡ over (sheetOf m s t) sheet
-      → Writes (record { refusal = 0; bytes = r }) x
+      → Writes m s t sheet (record { refusal = 0; bytes = r }) x
   unfolding sheetWrite writeRefusal wholeRows
   written-out b d r x e w f g er ex = writes _ _ (rw (← e, w, room d f, g, er, ex))

@@ -3,6 +3,7 @@
 use Prim.Native.Nat.{ℕ, zero, suc, _+_, _*_, _/_, _^_}
 use mathlib.Core.Bool.{Bool, true, false, cond, _&&_}
 use mathlib.Core.List.{List, [], _∷_}
+use mathlib.Core.Path.{_≡_}
 use lib.Dec.{eqb, ltb, leb}
 use lib.ListN.{length, take, drop, getD}
 use Rattle.machine.specs.Constants.{machineWords, stateWords, transitionWords}
@@ -133,3 +134,9 @@ sheetRead sheet machines states transitions =
       states = states;
       transitions = transitions;
     })
+
+-- a call on these tables gives the answer r and leaves the tables m, s and t
+abbrev pub Reads : List ℕ → List ℕ → List ℕ → List ℕ → SheetRows → List ℕ → List ℕ → List ℕ → Type 0
+Reads sheet machines states transitions r m s t =
+    let R = sheetRead sheet machines states transitions in
+    (r ≡ R .answer) × (m ≡ R .machines) × (s ≡ R .states) × (t ≡ R .transitions)

@@ -17,7 +17,7 @@ use lib.Seq.{take-append-seam, take-at}
 use Rattle.machine.specs.Constants.{machineWords, stateWords, transitionWords}
 use Rattle.sheet.specs.Sheet.{sheetOf}
 use Rattle.sheet.specs.Writer.{over, sheetWrite}
-use Rattle.sheet.specs.Reader.{machineLines, stateLines, transitionLines, formOf, sheetRead}
+use Rattle.sheet.specs.Reader.{machineLines, stateLines, transitionLines, formOf, Read, sheetRead}
 pub use U64.{Words}
 pub use Form.{machinesOf, statesOf, transitionsOf, sheet-is-whole, whole-is-sheet, tables-are-sound}
 use Form.{Sound}
@@ -33,21 +33,25 @@ whole-exactly sheet = (
   λ x. rw (← (x .4), sheet-is-whole (x .0) (x .1) (x .2) (x .3)),
 )
 
+-- these tables, read into m, s and t: their rows are counted, and what lies behind them stays
+abbrev pub readAs : List ℕ → List ℕ → List ℕ → List ℕ → List ℕ → List ℕ → Read
+readAs machines states transitions m s t = record {
+  answer = record {
+    refusal = 0;
+    machines = length machines / machineWords;
+    states = length states / stateWords;
+    transitions = length transitions / transitionWords;
+  };
+  machines = over machines m;
+  states = over states s;
+  transitions = over transitions t;
+}
+
 -- the sheet of sound tables is read as them, where there is room
 reads-sheet : (machines states transitions m s t : List ℕ) → Sound machines states transitions
     → length machines ≤ length m → length states ≤ length s → length transitions ≤ length t
     → sheetRead (sheetOf machines states transitions) m s t
-    ≡ record {
-      answer = record {
-        refusal = 0;
-        machines = length machines / machineWords;
-        states = length states / stateWords;
-        transitions = length transitions / transitionWords;
-      };
-      machines = over machines m;
-      states = over states s;
-      transitions = over transitions t;
-    }
+    ≡ readAs machines states transitions m s t
 reads-sheet machines states transitions m s t k lm ls lt =
     let sheet = sheetOf machines states transitions in
     let f = sheet-is-whole machines states transitions k in
@@ -70,17 +74,7 @@ pub written-reads-back : (machines states transitions sheet m s t : List ℕ)
     → (
     let W = sheetWrite machines states transitions sheet in
     sheetRead (take (W .answer .bytes) (W .sheet)) m s t)
-    ≡ record {
-      answer = record {
-        refusal = 0;
-        machines = length machines / machineWords;
-        states = length states / stateWords;
-        transitions = length transitions / transitionWords;
-      };
-      machines = over machines m;
-      states = over states s;
-      transitions = over transitions t;
-    }
+    ≡ readAs machines states transitions m s t
 written-reads-back machines states transitions sheet m s t wm ws wt h lm ls lt =
     let a = write-accepted machines states transitions sheet h wm ws wt in
     let text = sheetOf machines states transitions in

@@ -2,6 +2,7 @@
 use Prim.Native.Nat.{ℕ, _%_}
 use mathlib.Core.Bool.{Bool, cond, _&&_}
 use mathlib.Core.List.{List, _++_}
+use mathlib.Core.Path.{_≡_}
 use lib.Dec.{eqb, leb}
 use lib.ListN.{length, drop}
 use Rattle.machine.specs.Constants.{machineWords, stateWords, transitionWords}
@@ -36,3 +37,8 @@ sheetWrite machines states transitions sheet =
     cond (eqb refusal 0)
     (record { answer = record { refusal = 0; bytes = length text }; sheet = over text sheet })
     (record { answer = record { refusal = refusal; bytes = 0 }; sheet = sheet })
+
+-- a call on this sheet gives the answer r and leaves the sheet x
+abbrev pub Writes : List ℕ → List ℕ → List ℕ → List ℕ → SheetBytes → List ℕ → Type 0
+Writes machines states transitions sheet r x =
+    let W = sheetWrite machines states transitions sheet in (r ≡ W .answer) × (x ≡ W .sheet)

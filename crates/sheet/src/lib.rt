@@ -10,8 +10,8 @@ use reading::Form;
 ghost use mathlib.Core.Path.{_≡_};
 ghost use lib.Dec.{leb};
 ghost use Rattle.sheet.specs.Sheet.{bytesOf};
-ghost use Rattle.sheet.specs.Reader.{noRows, roomFor, sheetRead};
-ghost use Rattle.sheet.specs.Writer.{wholeRows, sheetWrite};
+ghost use Rattle.sheet.specs.Reader.{noRows, roomFor, Reads};
+ghost use Rattle.sheet.specs.Writer.{wholeRows, Writes};
 
 mod cell; // a word in its columns
 pub mod line; // the columns of a line
@@ -54,10 +54,8 @@ pub fn read(
     states: &mut [u64],
     transitions: &mut [u64],
 ) -> SheetRows
-    ensures { λ r. ⌜ (
-        let R = sheetRead (now (sheet .entry)) (now (machines .entry)) (now (states .entry)) (now (transitions .entry)) in
-        (r ≡ R .answer) × (now (machines .exit) ≡ R .machines) × (now (states .exit) ≡ R .states)
-        × (now (transitions .exit) ≡ R .transitions)) ⌝ }
+    ensures { λ r. ⌜ Reads (now (sheet .entry)) (now (machines .entry)) (now (states .entry)) (now (transitions .entry))
+        r (now (machines .exit)) (now (states .exit)) (now (transitions .exit)) ⌝ }
 {
     let rows = reading::form_of(sheet);
     if rows.whole {
@@ -75,8 +73,8 @@ pub fn read(
     unread(22)
 }
 
-// A sheet that is refused.
-fn unread(refusal: u64) -> SheetRows
+// The answer of a refused sheet.
+pub fn unread(refusal: u64) -> SheetRows
     ensures { λ r. ⌜ r ≡ noRows refusal ⌝ }
 {
     SheetRows {
@@ -117,9 +115,8 @@ fn lines_fit(machines: usize, states: usize, transitions: usize, bytes: usize) -
 
 // Writes the sheet of the tables.
 pub fn write(machines: &[u64], states: &[u64], transitions: &[u64], sheet: &mut [u8]) -> SheetBytes
-    ensures { λ r. ⌜ (
-        let W = sheetWrite (now (machines .entry)) (now (states .entry)) (now (transitions .entry)) (now (sheet .entry)) in
-        (r ≡ W .answer) × (now (sheet .exit) ≡ W .sheet)) ⌝ }
+    ensures { λ r. ⌜ Writes (now (machines .entry)) (now (states .entry)) (now (transitions .entry)) (now (sheet .entry))
+        r (now (sheet .exit)) ⌝ }
 {
     if whole_rows(machines.len(), states.len(), transitions.len()) {
         let m = machines.len() / MACHINE_WORDS;

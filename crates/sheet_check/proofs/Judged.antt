@@ -11,7 +11,7 @@ use Rattle.machine.specs.Constants.{machineWords, stateWords, transitionWords}
 use Rattle.tables.specs.Machine.{tablesRefusal}
 use Rattle.text.specs.Columns.{cellIn}
 use Rattle.text.proofs.Cells.{start, cell, feed}
-use Rattle.sheet.specs.Reader.{readRefusal, Read, sheetRead}
+use Rattle.sheet.specs.Reader.{readRefusal, Read, sheetRead, Reads}
 use Rattle.sheet.specs.Writer.{over}
 use Rattle.sheet.specs.RoundTrip.Calls.{reads}
 use Rattle.sheet.specs.RoundTrip.Form.{machinesOf, statesOf, transitionsOf, length-machines, length-states, length-transitions}
@@ -58,13 +58,13 @@ module _ (sheet m s t : List ℕ) where
       by-refusal false e = rw e (omega arith, omega arith, omega arith)
 
   pub read-inside : (r : SheetRows) (x y z : List ℕ)
-      → (let R = sheetRead sheet m s t in (r ≡ R .answer) × (x ≡ R .machines) × (y ≡ R .states) × (z ≡ R .transitions))
+      → Reads sheet m s t r x y z
       → Inside r x y z
   read-inside r x y z e = rw (e .0, e .1, e .2, e .3) inside
 
   -- the line of what was read and judged
   pub judged : (r : SheetRows) (x y z o line : List ℕ) (refusal : ℕ)
-      → (let R = sheetRead sheet m s t in (r ≡ R .answer) × (x ≡ R .machines) × (y ≡ R .states) × (z ≡ R .transitions))
+      → Reads sheet m s t r x y z
       → refusal
       ≡ tablesRefusal (take (machineWords * r .machines) x) (take (stateWords * r .states) y) (take (transitionWords * r .transitions) z)
       → line ≡ verdictLine r refusal ++ drop lineLength o

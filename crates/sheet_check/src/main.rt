@@ -10,7 +10,6 @@ ghost use mathlib.Core.Path.{_≡_};
 ghost use mathlib.Core.List.{_++_};
 ghost use Prim.Native.Nat.{_≤_};
 ghost use lib.ListN.{length, drop};
-ghost use Rattle.sheet.specs.Reader.{noRows};
 ghost use Rattle.sheet_check.specs.Verdict.{verdictLine, judgedLine, reportLine, lineLength};
 
 // The largest sheet that is read, in bytes, and the words of as many rows as it can have.
@@ -56,31 +55,19 @@ fn judge(
     verdict_line(line, r, refusal);
 }
 
-// A sheet that is larger than the program reads.
-fn too_large() -> SheetRows
-    ensures { λ r. ⌜ r ≡ noRows 23 ⌝ }
-{
-    SheetRows {
-        refusal: 23,
-        machines: 0,
-        states: 0,
-        transitions: 0,
-    }
-}
-
 // The line of a sheet of any length.
-fn report(sheet: &[u8], line: &mut [u8])
+fn report(bytes: &[u8], line: &mut [u8])
     requires { ⌜ lineLength ≤ length (now line) ⌝ }
-    ensures { λ _. ⌜ now (line .exit) ≡ reportLine (now (sheet .entry)) ++ drop lineLength (now (line .entry)) ⌝ }
+    ensures { λ _. ⌜ now (line .exit) ≡ reportLine (now (bytes .entry)) ++ drop lineLength (now (line .entry)) ⌝ }
 {
-    if SHEET < sheet.len() {
-        verdict_line(line, too_large(), 0);
+    if SHEET < bytes.len() {
+        verdict_line(line, sheet::unread(23), 0);
         return;
     }
     let mut machines = [0u64; MACHINES];
     let mut states = [0u64; STATES];
     let mut transitions = [0u64; TRANSITIONS];
-    judge(sheet, &mut machines, &mut states, &mut transitions, line);
+    judge(bytes, &mut machines, &mut states, &mut transitions, line);
 }
 
 fn main() {

@@ -6,8 +6,8 @@ use borrow.Author.Needs.{needs}
 use Rattle.sheet_check.proofs.report.Statement.{statement}
 use Rattle.sheet_check.proofs.report.Tie as tie
 
-too-large-requires : tie.Need-too-large-requires
-too-large-requires c κs = search needs
+unread-requires : tie.Need-unread-requires
+unread-requires c κs = search needs
 
 verdict-line-requires : tie.Need-verdict-line-requires
 verdict-line-requires c κs = search needs
@@ -19,7 +19,7 @@ returns : tie.Need-returns
 unfolding reportLine
 returns c =
     let a = c .before .before .before .before .before .before .before .before .args in
-    rw (lt-ltb sheetRoom (length (a .sheet .now)) (c .before .before .before .before .before .if1 .taken), ← c .before .before .before .too-large .ensures) (c .before .before .verdict-line .ensures)
+    rw (lt-ltb sheetRoom (length (a .bytes .now)) (c .before .before .before .before .before .if1 .taken), ← c .before .before .before .unread .ensures) (c .before .before .verdict-line .ensures)
 
 slice-aggregate-judge : tie.Need-slice-aggregate-judge
 slice-aggregate-judge c = search needs
@@ -40,13 +40,13 @@ returns-2 : tie.Need-returns-2
 unfolding reportLine
 returns-2 c =
     let a = c .before .before .before .before .before .before .before .before .before .before .before .before .before .args in
-    rw (le-ltb sheetRoom (length (a .sheet .now)) (c .before .before .before .before .before .before .before .before .before .before .if1 .left)) (c .before .before .before .before .before .judge .ensures)
+    rw (le-ltb sheetRoom (length (a .bytes .now)) (c .before .before .before .before .before .before .before .before .before .before .if1 .left)) (c .before .before .before .before .before .judge .ensures)
 
 pub report-spec : {M : Type 1} → statement M
 report-spec =
     tie.close
     (tie.spec
-    too-large-requires
+    unread-requires
     verdict-line-requires
     same-length
     returns
