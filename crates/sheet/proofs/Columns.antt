@@ -1,7 +1,7 @@
 -- The columns of a word from the left: what each byte makes of the number so far is what the columns of a number have there.
 use Prim.Native.Nat.{ℕ, zero, suc, _+_, _-_, _*_, _/_, _%_, _^_, _≤_, _<_}
 use mathlib.Core.Path.{_≡_, refl, sym, ap, _∙_, subst}
-use mathlib.Core.Bool.{Bool, true, false, cond, _&&_, false≢true}
+use mathlib.Core.Bool.{Bool, true, false, cond, _&&_, and-eq-true-iff, false≢true}
 use mathlib.Core.List.{List, [], _∷_, _++_}
 use native.Mathlib.Omega.{arith}
 use native.Mathlib.Numerals.{add-one}
@@ -16,10 +16,22 @@ use Rattle.text.proofs.Cells.{length-rests}
 use Rattle.sheet.specs.Sheet.{wordColumns}
 use Rattle.sheet.specs.Reader.{isCell, cellOf}
 use Rattle.sheet.specs.Laws.{cell-columns, columns-cell, spells}
-use Rattle.sheet.specs.Digits.{columnOf, lastOf, noCell}
+use Rattle.sheet.specs.Digits.{isDigit, columnOf, lastOf, noCell}
 use Rattle.sheet.specs.declared.cell.Cell.{Cell}
 use Rattle.sheet.specs.declared.cell.Column.{Column}
 use Rattle.sheet.specs.declared.cell.Column.the-variants.{On, Off}
+
+-- ---- digits
+
+pub digit-bounds : (b : ℕ) → isDigit b ≡ true → (48 ≤ b) × (b ≤ 57)
+unfolding isDigit
+digit-bounds b h =
+    let g = and-eq-true-iff (leb 48 b) (leb b 57) .0 h in
+    (leb-true 48 b (g .0), leb-true b 57 (g .1))
+
+bounds-digit : (b : ℕ) → 48 ≤ b → b ≤ 57 → isDigit b ≡ true
+unfolding isDigit
+bounds-digit b l u = rw (le-leb 48 b l, le-leb b 57 u)
 
 -- ---- one column, case by case
 
@@ -32,39 +44,31 @@ module _ (n b : ℕ) where
   unfolding columnOf
   behind-digits e z = rw (eq-eqb b 32 e, ne-eqb n 0 z)
 
-  pub below-digits : (b ≡ 32 → ⊥) → b < 48 → Off ≡ columnOf n b
+  pub no-digit : (b ≡ 32 → ⊥) → isDigit b ≡ false → Off ≡ columnOf n b
   unfolding columnOf
-  below-digits e l = rw (ne-eqb b 32 e, lt-leb 48 b l)
+  no-digit e d = rw (ne-eqb b 32 e, d)
 
-  pub above-digits : 57 < b → Off ≡ columnOf n b
+  pub leading-zero : (b ≡ 32 → ⊥) → isDigit b ≡ true → n * 10 + (b - 48) ≡ 0 → Off ≡ columnOf n b
   unfolding columnOf
-  above-digits l = rw (ne-eqb b 32 (λ e. omega (arith, e)), le-leb 48 b (omega arith), lt-leb b 57 l)
+  leading-zero e d z = rw (ne-eqb b 32 e, d, eq-eqb (n * 10 + (b - 48)) 0 z)
 
-  pub leading-zero : 48 ≤ b → b ≤ 57 → n * 10 + (b - 48) ≡ 0 → Off ≡ columnOf n b
+  pub one-digit : (b ≡ 32 → ⊥) → isDigit b ≡ true → (n * 10 + (b - 48) ≡ 0 → ⊥) → On (n * 10 + (b - 48)) ≡ columnOf n b
   unfolding columnOf
-  leading-zero l h z = rw (ne-eqb b 32 (λ e. omega (arith, e)), le-leb 48 b l, le-leb b 57 h, eq-eqb (n * 10 + (b - 48)) 0 z)
-
-  pub one-digit : 48 ≤ b → b ≤ 57 → (n * 10 + (b - 48) ≡ 0 → ⊥) → On (n * 10 + (b - 48)) ≡ columnOf n b
-  unfolding columnOf
-  one-digit l h z = rw (ne-eqb b 32 (λ e. omega (arith, e)), le-leb 48 b l, le-leb b 57 h, ne-eqb (n * 10 + (b - 48)) 0 z)
+  one-digit e d z = rw (ne-eqb b 32 e, d, ne-eqb (n * 10 + (b - 48)) 0 z)
 
   -- ---- the last
-  pub last-below : b < 48 → noCell ≡ lastOf n b
+  pub last-other : isDigit b ≡ false → noCell ≡ lastOf n b
   unfolding lastOf
-  last-below l = rw (lt-leb 48 b l)
+  last-other d = rw d
 
-  pub last-above : 57 < b → noCell ≡ lastOf n b
+  pub last-large : isDigit b ≡ true → 2 ^ 64 ≤ n * 10 + (b - 48) → noCell ≡ lastOf n b
   unfolding lastOf
-  last-above l = rw (le-leb 48 b (omega arith), lt-leb b 57 l)
+  last-large d g = rw (d, le-ltb (n * 10 + (b - 48)) (2 ^ 64) g)
 
-  pub last-large : 48 ≤ b → b ≤ 57 → 2 ^ 64 ≤ n * 10 + (b - 48) → noCell ≡ lastOf n b
-  unfolding lastOf
-  last-large l h g = rw (le-leb 48 b l, le-leb b 57 h, le-ltb (n * 10 + (b - 48)) (2 ^ 64) g)
-
-  pub last-digit : 48 ≤ b → b ≤ 57 → n * 10 + (b - 48) < 2 ^ 64
+  pub last-digit : isDigit b ≡ true → n * 10 + (b - 48) < 2 ^ 64
       → _≡_ {A = Cell} (record { good = true; word = n * 10 + (b - 48) }) (lastOf n b)
   unfolding lastOf
-  last-digit l h g = rw (le-leb 48 b l, le-leb b 57 h, lt-ltb (n * 10 + (b - 48)) (2 ^ 64) g)
+  last-digit d g = rw (d, lt-ltb (n * 10 + (b - 48)) (2 ^ 64) g)
 
 -- ---- the columns of a number, from the left
 
@@ -153,7 +157,7 @@ column-on m = by-zero (eqb m 0) refl
     by-zero false e =
         let ne : (m ≡ 0 → ⊥) = eqb-false m 0 e in
         let v : m / 10 * 10 + (48 + m % 10 - 48) ≡ m = omega arith in
-        rw e (ap On (sym v) ∙ one-digit (m / 10) (48 + m % 10) (omega arith) (omega arith) (λ z. ne (sym v ∙ z)))
+        rw e (ap On (sym v) ∙ one-digit (m / 10) (48 + m % 10) (λ z. omega (arith, z)) (bounds-digit (48 + m % 10) (omega arith) (omega arith)) (λ z. ne (sym v ∙ z)))
 
 -- and no other byte goes on
 pub on-column : (n b m : ℕ) → columnOf n b ≡ On m → (m / 10 ≡ n) × (b ≡ mark m)
@@ -175,18 +179,17 @@ on-column n b m h = by-space (eqb b 32) refl h
         let ne : eqb m 0 ≡ false = rw v at e in
         (omega arith, rw ne (omega arith))
 
-    by-digit : (x : Bool) → leb 48 b ≡ x → (y : Bool) → leb b 57 ≡ y
-        → cond (x && y) (cond (eqb (n * 10 + (b - 48)) 0) Off (On (n * 10 + (b - 48)))) Off ≡ On m
+    by-digit : (d : Bool) → isDigit b ≡ d
+        → cond d (cond (eqb (n * 10 + (b - 48)) 0) Off (On (n * 10 + (b - 48)))) Off ≡ On m
         → (m / 10 ≡ n) × (b ≡ mark m)
-    by-digit true e true f g = by-grown (eqb (n * 10 + (b - 48)) 0) refl (leb-true 48 b e) (leb-true b 57 f) g
-    by-digit true e false f g = absurd (false≢true (ap isOn g))
-    by-digit false e y f g = absurd (false≢true (ap isOn g))
+    by-digit true e g = let d = digit-bounds b e in by-grown (eqb (n * 10 + (b - 48)) 0) refl (d .0) (d .1) g
+    by-digit false e g = absurd (false≢true (ap isOn g))
 
     by-space : (s : Bool) → eqb b 32 ≡ s
-        → cond s (cond (eqb n 0) (On 0) Off) (cond (leb 48 b && leb b 57) (cond (eqb (n * 10 + (b - 48)) 0) Off (On (n * 10 + (b - 48)))) Off) ≡ On m
+        → cond s (cond (eqb n 0) (On 0) Off) (cond (isDigit b) (cond (eqb (n * 10 + (b - 48)) 0) Off (On (n * 10 + (b - 48)))) Off) ≡ On m
         → (m / 10 ≡ n) × (b ≡ mark m)
     by-space true e g = by-zero (eqb n 0) refl (eqb-true b 32 e) g
-    by-space false e g = by-digit (leb 48 b) refl (leb b 57) refl g
+    by-space false e g = by-digit (isDigit b) refl g
 
 -- ---- the cell
 
@@ -260,17 +263,16 @@ module _ (bytes : List ℕ) where
 
     pub ends : lastOf n B ≡ cellOf bytes
     unfolding lastOf
-    ends = by-tests (leb 48 B) refl (leb B 57) refl (ltb W (2 ^ 64)) refl
+    ends = by-tests (isDigit B) refl (ltb W (2 ^ 64)) refl
       where
-        by-tests : (x : Bool) → leb 48 B ≡ x → (y : Bool) → leb B 57 ≡ y → (z : Bool) → ltb W (2 ^ 64) ≡ z
-            → cond (x && y) (cond z (record { good = true; word = W }) noCell) noCell ≡ cellOf bytes
-        by-tests true e true f true g =
-            let l = leb-true 48 B e in
-            let u = leb-true B 57 f in
+        by-tests : (d : Bool) → isDigit B ≡ d → (z : Bool) → ltb W (2 ^ 64) ≡ z
+            → cond d (cond z (record { good = true; word = W }) noCell) noCell ≡ cellOf bytes
+        by-tests true e true g =
+            let d = digit-bounds B e in
             of-word W (ltb-true _ _ g) (omega arith) (omega arith)
-        by-tests true e true f false g = no-last (λ v h d b. omega (arith, ltb-false W (2 ^ 64) g))
-        by-tests true e false f z g = no-last (λ v h d b. omega (arith, leb-false B 57 f))
-        by-tests false e y f z g = no-last (λ v h d b. omega (arith, leb-false 48 B e))
+        by-tests true e false g = no-last (λ v h d b. omega (arith, ltb-false W (2 ^ 64) g))
+        by-tests false e z g =
+            no-last (λ v h d b. false≢true (sym e ∙ bounds-digit B (omega (arith, b)) (omega (arith, b))))
 
 -- ---- a cell at a place
 

@@ -6,19 +6,25 @@ use Rattle.sheet.specs.declared.cell.Cell.{Cell}
 use Rattle.sheet.specs.declared.cell.Column.{Column}
 use Rattle.sheet.specs.declared.cell.Column.the-variants.{On, Off}
 
+-- no word
 abbrev pub noCell : Cell
 noCell = record { good = false; word = 0 }
 
--- the number n with the byte b behind it: nothing where it is a digit's byte that makes 0, since a space stands there
+unfoldable pub isDigit : ℕ → Bool
+isDigit b = leb 48 b && leb b 57
+
+-- a digit has made m of the number; a space stands where that would be 0
 abbrev pub grown : ℕ → Column
 grown m = cond (eqb m 0) Off (On m)
 
+-- the number n so far, and the byte b of a column left of the last: a space before the first digit, or a digit
 unfoldable pub columnOf : ℕ → ℕ → Column
 columnOf n b =
-    cond (eqb b 32) (cond (eqb n 0) (On 0) Off) (cond (leb 48 b && leb b 57) (grown (n * 10 + (b - 48))) Off)
+    cond (eqb b 32) (cond (eqb n 0) (On 0) Off) (cond (isDigit b) (grown (n * 10 + (b - 48))) Off)
 
+-- the number n so far, and the byte b of the last column: a digit, with which it is still a u64
 unfoldable pub lastOf : ℕ → ℕ → Cell
 lastOf n b =
-    cond (leb 48 b && leb b 57)
+    cond (isDigit b)
     (cond (ltb (n * 10 + (b - 48)) (2 ^ 64)) (record { good = true; word = n * 10 + (b - 48) }) noCell)
     noCell

@@ -29,7 +29,8 @@ leading test step (suc n) xs = cond (test (take step xs)) (suc (leading test ste
 
 -- ---- a line
 
--- what the writer puts for a word: the bytes are the columns of the number that they spell, which is a u64
+-- what the writer puts for a word: the bytes are the columns of the number that they spell, which is a u64. (Bytes other than
+-- spaces and digits spell something too, but stand in no number's columns.)
 unfoldable pub isCell : List ℕ → Bool
 isCell bytes = ltb (readBack bytes) (2 ^ 64) && same bytes (right wordColumns (readBack bytes))
 

@@ -1,10 +1,11 @@
 // A word out of its 21 columns.
 ghost use mathlib.Core.Path.{_≡_};
-ghost use Prim.Native.Nat.{_-_, _≤_, _<_, _^_};
+ghost use mathlib.Core.Bool.{true};
+ghost use Prim.Native.Nat.{_-_, _<_, _^_};
 ghost use lib.ListN.{length};
 ghost use Rattle.sheet.specs.Sheet.{wordColumns};
 ghost use Rattle.sheet.specs.Reader.{cellOf};
-ghost use Rattle.sheet.specs.Digits.{columnOf, lastOf, noCell};
+ghost use Rattle.sheet.specs.Digits.{isDigit, columnOf, lastOf, noCell};
 
 // Whether bytes are a word's columns, and the word; 0 where they are not.
 pub struct Cell {
@@ -27,10 +28,19 @@ fn no_cell() -> Cell
     }
 }
 
-// The value of a digit's byte.
+fn is_digit(b: u8) -> bool
+    ensures { λ r. ⌜ r ≡ isDigit b ⌝ }
+{
+    if b < b'0' {
+        return false;
+    }
+    b <= b'9'
+}
+
+// The value of a digit.
 fn digit(b: u8) -> u64
-    requires { ⌜ 48 ≤ b ⌝ }
-    ensures { λ r. ⌜ (r ≡ b - 48) × (r < 208) ⌝ }
+    requires { ⌜ isDigit b ≡ true ⌝ }
+    ensures { λ r. ⌜ (r ≡ b - 48) × (r < 10) ⌝ }
 {
     (b - 48) as u64
 }
@@ -46,37 +56,31 @@ fn read_on(n: u64, b: u8) -> Column
         }
         return Column::Off;
     }
-    if b < b'0' {
-        return Column::Off;
+    if is_digit(b) {
+        let m = n * 10 + digit(b);
+        if m == 0 {
+            return Column::Off;
+        }
+        return Column::On(m);
     }
-    if b'9' < b {
-        return Column::Off;
-    }
-    let m = n * 10 + digit(b);
-    if m == 0 {
-        return Column::Off;
-    }
-    Column::On(m)
+    Column::Off
 }
 
 // The last column has a digit, with which the word may grow too large.
 fn last(n: u64, b: u8) -> Cell
     ensures { λ r. ⌜ r ≡ lastOf n b ⌝ }
 {
-    if b < b'0' {
-        return no_cell();
+    if is_digit(b) {
+        let d = digit(b);
+        if (18446744073709551615 - d) / 10 < n {
+            return no_cell();
+        }
+        return Cell {
+            good: true,
+            word: n * 10 + d,
+        };
     }
-    if b'9' < b {
-        return no_cell();
-    }
-    let d = digit(b);
-    if (18446744073709551615 - d) / 10 < n {
-        return no_cell();
-    }
-    Cell {
-        good: true,
-        word: n * 10 + d,
-    }
+    no_cell()
 }
 
 // The first column has a space: no u64 has 21 digits.

@@ -1,35 +1,29 @@
 -- `sheet::cell::last` meets its contract: one case for each arm.
-use borrow.Author.Needs.{needs}
-use mathlib.Core.Path.{_∙_}
+use mathlib.Core.Path.{sym, _∙_}
 use native.Mathlib.Omega.{arith}
-use lib.Dec.{lit≤}
-use Rattle.sheet.proofs.Columns.{last-below, last-above, last-large, last-digit}
+use Rattle.sheet.proofs.Columns.{last-other, last-large, last-digit}
+use borrow.Author.Needs.{needs}
 use Rattle.sheet.proofs.cell.last.Statement.{statement}
 use Rattle.sheet.proofs.cell.last.Tie as tie
+
+is-digit-requires : tie.Need-is-digit-requires
+is-digit-requires c κs = search needs
+
+digit-requires : tie.Need-digit-requires
+digit-requires c κs = sym (c .before .is-digit .ensures) ∙ c .if1 .taken
+
+sub-if2 : tie.Need-sub-if2
+sub-if2 c = search needs
 
 no-cell-requires : tie.Need-no-cell-requires
 no-cell-requires c κs = search needs
 
 returns : tie.Need-returns
-returns c = c .no-cell .ensures ∙ last-below _ _ (c .before .if1 .taken)
-
-no-cell-requires-2 : tie.Need-no-cell-requires-2
-no-cell-requires-2 c κs = search needs
-
-returns-2 : tie.Need-returns-2
-returns-2 c = c .no-cell2 .ensures ∙ last-above _ _ (c .before .if2 .taken)
-
-digit-requires : tie.Need-digit-requires
-digit-requires c κs = search needs
-
-sub-if3 : tie.Need-sub-if3
-sub-if3 c = search needs
-
-no-cell-requires-3 : tie.Need-no-cell-requires-3
-no-cell-requires-3 c κs = search needs
-
-returns-3 : tie.Need-returns-3
-returns-3 c = c .no-cell3 .ensures ∙ last-large _ _ (omega arith) (omega arith) (omega (arith, c .before .if3 .taken, c .before .before .digit .ensures .0))
+returns c =
+    let a = c .before .before .before .before .before .args in
+    let d = sym (c .before .before .before .before .is-digit .ensures) ∙ c .before .before .before .if1 .taken in
+    let v = c .before .before .digit .ensures .0 in
+    c .no-cell .ensures ∙ last-large (a .n) (a .b) d (omega (arith, c .before .if2 .taken))
 
 mul-t5 : tie.Need-mul-t5
 mul-t5 c = search needs
@@ -37,24 +31,30 @@ mul-t5 c = search needs
 add-t6 : tie.Need-add-t6
 add-t6 c = search needs
 
-returns-4 : tie.Need-returns-4
-returns-4 c =
+returns-2 : tie.Need-returns-2
+returns-2 c =
     let a = c .before .before .before .before .args in
-    rw (c .before .digit .ensures .0)
-    (last-digit (a .n) (a .b) (omega arith) (omega arith) (omega (arith, c .if3 .left, c .before .digit .ensures .0)))
+    let d = sym (c .before .before .before .is-digit .ensures) ∙ c .before .before .if1 .taken in
+    let v = c .before .digit .ensures .0 in
+    rw v (last-digit (a .n) (a .b) d (omega (arith, c .if2 .left)))
+
+no-cell-requires-2 : tie.Need-no-cell-requires-2
+no-cell-requires-2 c κs = search needs
+
+returns-3 : tie.Need-returns-3
+returns-3 c = c .no-cell2 .ensures ∙ last-other _ _ (sym (c .before .before .is-digit .ensures) ∙ c .before .if1 .left)
 
 pub last-spec : {M : Type 1} → statement M
 last-spec =
     tie.close
     (tie.spec
+    is-digit-requires
+    digit-requires
+    sub-if2
     no-cell-requires
     returns
-    no-cell-requires-2
-    returns-2
-    digit-requires
-    sub-if3
-    no-cell-requires-3
-    returns-3
     mul-t5
     add-t6
-    returns-4)
+    returns-2
+    no-cell-requires-2
+    returns-3)
