@@ -1,7 +1,7 @@
 -- The columns of a word from the left: what each byte makes of the number so far is what the columns of a number have there.
 use Prim.Native.Nat.{ℕ, zero, suc, _+_, _-_, _*_, _/_, _%_, _^_, _≤_, _<_}
 use mathlib.Core.Path.{_≡_, refl, sym, ap, _∙_, subst}
-use mathlib.Core.Bool.{Bool, true, false, cond, _&&_, and-eq-true-iff, false≢true}
+use mathlib.Core.Bool.{Bool, true, false, cond, and-eq-true-iff, false≢true}
 use mathlib.Core.List.{List, [], _∷_, _++_}
 use native.Mathlib.Omega.{arith}
 use native.Mathlib.Numerals.{add-one}
@@ -9,7 +9,7 @@ use native.Mathlib.Nat.{pow-suc, pow-zero, pow-le-pow-right, add-zero, add-suc}
 use lib.ListN.{length, take, drop, getD}
 use lib.Seq.{take-all, take-append-le, take-suc, take-at, getD-at, getD-take, take-take, take-length}
 use lib.Dec.{eqb, ltb, leb, lit<}
-use borrow.Author.Tests.{eqb-true, eqb-false, leb-true, leb-false, ltb-true, ltb-false, eq-eqb, ne-eqb, le-leb, lt-leb, lt-ltb, le-ltb}
+use borrow.Author.Tests.{eqb-true, eqb-false, leb-true, ltb-true, ltb-false, eq-eqb, ne-eqb, le-leb, lt-ltb, le-ltb}
 use Rattle.text.specs.Columns.{mark, rests, right}
 use Rattle.text.specs.Fits.{readBack, read-rests}
 use Rattle.text.proofs.Cells.{length-rests}

@@ -1,15 +1,14 @@
 -- A word more in a row, and a row more in a table.
 use Prim.Native.Nat.{ℕ, suc, _+_, _-_, _*_, _≤_, _<_}
-use mathlib.Core.Path.{_≡_, refl, sym, ap, _∙_}
+use mathlib.Core.Path.{_≡_, refl, sym, _∙_}
 use mathlib.Core.List.{List, [], _∷_, _++_, append-assoc}
 use native.Mathlib.Numerals.{add-one}
-use native.Mathlib.Nat.{mul-one}
 use native.Mathlib.Omega.{arith}
-use lib.ListN.{length, take, drop, set, getD, length-append, length-drop}
+use lib.ListN.{length, take, drop, set, getD, length-drop}
 use lib.Seq.{drop-cons, drop-drop, set-at, length-take-le}
 use Rattle.text.specs.Part.{through, from, written}
 use Rattle.sheet.specs.Sheet.{kindColumns, wordColumns, lineBytes, each}
-use Rattle.sheet.specs.Reader.{cellOf, wordIn, wordsOf, tableOf}
+use Rattle.sheet.specs.Reader.{cellOf, wordIn, wordsOf}
 use Rattle.sheet.specs.Laws.{each-more, length-each}
 
 module _ (line : List ℕ) (words i : ℕ) (some : i ≤ words) (size : length line ≡ lineBytes words) where

@@ -14,7 +14,7 @@ use Rattle.sheet.specs.Sheet.{each}
 use Rattle.text.specs.Columns.{right}
 use Rattle.text.specs.Fits.{readBack, reads-back}
 use Rattle.sheet.specs.Sheet.{wordColumns}
-use Rattle.sheet.specs.Reader.{same, leading, isCell, cellOf}
+use Rattle.sheet.specs.Reader.{same, leading, isCell}
 
 -- ---- each
 

@@ -38,7 +38,7 @@ fn wide(b: u8) -> u64
 
 // Whether a line has this kind, a digit, in its first columns.
 fn has_kind(line: &[u8], kind: u64) -> bool
-    requires { ⌜ (kindColumns ≤ length (now line)) × (0 < kind) × (kind < 10) ⌝ }
+    requires { ⌜ (kindColumns ≤ length (now line)) × (kind < 10) ⌝ }
     ensures { λ r. ⌜ r ≡ same (take kindColumns (now (line .entry))) (right kindColumns kind) ⌝ }
 {
     if line[0] == b' ' {
@@ -74,7 +74,7 @@ fn good_cells(bytes: &[u8], words: usize) -> usize
 
 // Whether bytes are a line of this kind, with so many words.
 fn is_line(line: &[u8], kind: u64, words: usize) -> bool
-    requires { ⌜ (length (now line) ≡ lineBytes words) × (0 < kind) × (kind < 10) ⌝ }
+    requires { ⌜ (length (now line) ≡ lineBytes words) × (kind < 10) ⌝ }
     ensures { λ r. ⌜ r ≡ isLine kind words (now (line .entry)) ⌝ }
 {
     if has_kind(line, kind) {
@@ -88,7 +88,7 @@ fn is_line(line: &[u8], kind: u64, words: usize) -> bool
 
 // How many lines of this kind stand at the front; a line has so many words and bytes.
 fn lines(text: &[u8], kind: u64, words: usize, size: usize) -> usize
-    requires { ⌜ (size ≡ lineBytes words) × (0 < kind) × (kind < 10) ⌝ }
+    requires { ⌜ (size ≡ lineBytes words) × (kind < 10) ⌝ }
     ensures is { λ r. ⌜ r ≡ linesIn kind words (now (text .entry)) ⌝ }
     ensures inside { λ r. ⌜ size * r ≤ length (now (text .entry)) ⌝ }
 {
@@ -106,7 +106,7 @@ fn lines(text: &[u8], kind: u64, words: usize, size: usize) -> usize
     i
 }
 
-// The whole sheet, without a table to fill.
+// Judges the whole sheet.
 pub fn form_of(sheet: &[u8]) -> Form
     ensures is { λ r. ⌜ r ≡ formOf (now (sheet .entry)) ⌝ }
     ensures inside { λ r. ⌜ bytesOf (r .machines) (r .states) (r .transitions) ≤ length (now (sheet .entry)) ⌝ }

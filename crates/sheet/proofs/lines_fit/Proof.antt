@@ -1,5 +1,5 @@
 -- `sheet::lines_fit` meets its contract: what is left of the bytes is what the sum leaves.
-use Prim.Native.Nat.{ℕ, _+_, _*_, _/_, _-_}
+use Prim.Native.Nat.{_*_, _/_, _-_}
 use native.Mathlib.Omega.{arith}
 use Rattle.machine.specs.Constants.{machineWords, stateWords, transitionWords}
 use Rattle.sheet.specs.Sheet.{lineBytes, bytesOf}

@@ -5,7 +5,6 @@ use mathlib.Core.Bool.{true}
 use mathlib.Core.List.{List, [], _∷_, _++_, append-nil}
 use native.Mathlib.Omega.{arith}
 use native.Mathlib.Nat.{add-zero}
-use lib.Dec.{lit<}
 use lib.ListN.{length, take, getD, length-append}
 use Rattle.text.specs.Columns.{right}
 use Rattle.text.proofs.Cells.{length-right}

@@ -1,6 +1,6 @@
 -- `sheet::reading::good_cells` meets its contract: those before the turn have passed.
 use Prim.Native.Nat.{_*_, _-_, _≤_}
-use mathlib.Core.Path.{_≡_, refl}
+use mathlib.Core.Path.{refl}
 use mathlib.Core.Bool.{true, false}
 use native.Mathlib.Omega.{arith}
 use Rattle.sheet.specs.Sheet.{wordColumns}

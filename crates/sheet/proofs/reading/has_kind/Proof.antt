@@ -1,5 +1,4 @@
 -- `sheet::reading::has_kind` meets its contract: byte by byte.
-use mathlib.Core.Path.{_∙_}
 use native.Mathlib.Omega.{arith}
 use borrow.Author.Tests.{eq-eqb, ne-eqb}
 use Rattle.sheet.proofs.Kind.{kind-test}
