@@ -2,10 +2,12 @@
 //!
 //! `cargo run --release` prints the tables. With MACHINES STATES EVENTS SIDE BATCHES after `--` it
 //! runs one side (`ours`, `rust` or `check`) of one case, for a profiler. `-- sheets` times the sheets'
-//! writer and reader. Built with another archive, `-- other` times it beside the present one.
+//! writer and reader, `-- due` the due list. Built with another archive, `-- other` times it beside the
+//! present one.
 
 mod case;
 mod clock;
+mod due_list;
 mod input;
 #[cfg(other)]
 mod other;
@@ -214,6 +216,9 @@ fn main() {
     }
     if args == ["sheets"] {
         return sheet::compare();
+    }
+    if args == ["due"] {
+        return due_list::compare();
     }
     if args == ["other"] {
         #[cfg(other)]

@@ -41,6 +41,9 @@ static void print_offsets(void) {
     NUMBER(MAYBENOT_STATE_AT_COUNTER_B);
     NUMBER(MAYBENOT_STATE_AT_PAIRS);
     NUMBER(MAYBENOT_COUNTER_AT_DIST);
+    NUMBER(MAYBENOT_ACTION_AT_MACHINE);
+    NUMBER(MAYBENOT_ACTION_AT_KIND);
+    NUMBER(MAYBENOT_ACTION_AT_TIMEOUT);
 }
 
 static void print_codes(void) {
@@ -63,6 +66,8 @@ static void print_codes(void) {
     NUMBER(MAYBENOT_TABLE_SIZE);
     NUMBER(MAYBENOT_SHEET_FORM);
     NUMBER(MAYBENOT_SHEET_ROOM);
+    NUMBER(MAYBENOT_UNKNOWN_CODE);
+    NUMBER(MAYBENOT_OUTPUT_SIZE);
 }
 
 static void print_framework(void) {
@@ -110,6 +115,9 @@ static void print_answers(void) {
     STRUCT(maybenot_sheet_bytes);
     FIELD(maybenot_sheet_bytes, refusal);
     FIELD(maybenot_sheet_bytes, bytes);
+    STRUCT(maybenot_due);
+    FIELD(maybenot_due, refusal);
+    FIELD(maybenot_due, rows);
 }
 
 int main(void) {

@@ -253,7 +253,7 @@ static inline const char *maybenot_refusal_text(uint64_t refusal) {
     case 0: return "accepted";
     case 1: return "the framework's padding fraction is outside 0 to 1";
     case 2: return "the framework's blocking fraction is outside 0 to 1";
-    case 3: return "a table is not whole rows, or there are more than 16 machines";
+    case 3: return "a table or the rows to be listed are not whole rows, or there are more than 16 machines";
     case 4: return "a machine's padding fraction is below 0 or above 1";
     case 5: return "a machine's blocking fraction is below 0 or above 1";
     case 6: return "a machine has no states, or more than 100,000";
@@ -270,7 +270,7 @@ static inline const char *maybenot_refusal_text(uint64_t refusal) {
     case 17: return "a draw is out of the range that it was asked for";
     case 18: return "the framework is not one of these tables";
     case 19: return "the event list has an odd number of words or a kind above 9";
-    case 20: return "the output is shorter than a row for each machine";
+    case 20: return "the output is shorter than a row for each machine, or than the rows to be listed";
     case 22: return "a line of the sheet is malformed or misplaced";
     case 23: return "a lent table or the lent sheet is too small";
     default: return "a refusal that this version of the header does not know";
@@ -331,12 +331,17 @@ typedef struct maybenot_sheet_bytes {
     uint64_t bytes;   /* how many were written */
 } maybenot_sheet_bytes;
 
+typedef struct maybenot_due {
+    uint64_t refusal; /* enum maybenot_refusal; look at it before the rest */
+    uint64_t rows;    /* how many were written */
+} maybenot_due;
+
 /* ---- The functions
  *
  * Each pointer comes with its length in elements; a length of 0 may come with NULL. What is only read (const) may overlap.
- * What is written (the framework, the output, the tables of a reader, the sheet of a writer) may not overlap anything else that
- * is lent, and nobody else may write or read it during the call; what stands behind the part that was written stays. Pointers
- * are aligned as their types are.
+ * What is written (the framework, the output, the due list, the tables of a reader, the sheet of a writer) may not overlap
+ * anything else that is lent, and nobody else may write or read it during the call; what stands behind the part that was
+ * written stays. Pointers are aligned as their types are.
  *
  * Draws: the library draws no random numbers. `chances` and `values` are tapes of the sender's draws, read from the front: a
  * chance draw c is 0 <= c < 1, a value draw is of the distribution that asks for it. The answer says how many of each were
@@ -366,6 +371,19 @@ maybenot_reply maybenot_batch(
 
 /* Whether every machine has ended; true with no machines. */
 bool maybenot_all_machines_ended(const maybenot_framework *framework);
+
+/* Writes the rows of a batch in the order in which they fall due, and says how many they are: the smallest timeout first, the
+ * lower machine first where these are equal, and rows equal in both in the order in which they came. Cancel and UpdateTimer
+ * have timeout 0, and so come early. Any number of rows may be lent, of any machines and with any flags: the kind alone is
+ * judged, and each row is copied word for word. `out` needs as many words as the rows have, and the words behind these stay.
+ * The call uses no other room: while it runs, the first words of `out` are other numbers. After a batch that wrote to `rows`:
+ *     maybenot_due due = maybenot_due_list(rows, MAYBENOT_ACTION_WORDS * reply.actions, out, out_len);
+ *   3    the rows are not whole: mend their length
+ *   14   a row has a kind other than MAYBENOT_CANCEL to MAYBENOT_UPDATE_TIMER: mend the row; a batch writes none such
+ *   20   `out` is shorter than the rows: lend rows_len words */
+maybenot_due maybenot_due_list(
+    const uint64_t *rows, size_t rows_len,
+    uint64_t *out, size_t out_len);
 
 /* Reads a sheet into the three tables, and says how many rows each got. It judges the form alone, with any number of rows: what
  * they say is for the opening to judge, which is lent the rows that were read and not the rest of the room. For states,
@@ -415,7 +433,8 @@ maybenot_sheet_bytes maybenot_sheet_write(
  *                    end moves, bypass becomes this row's
  *   UpdateTimer      set the internal timer to now + duration: with replace in any case, else where it is idle or ends earlier
  *   Cancel           clear the action timer, the internal timer, or both; nothing is reported
- * A machine without a row keeps what it has pending.
+ * A machine without a row keeps what it has pending. The rows of a batch may be taken in any order; a sender that arms its
+ * timers from the front of a list makes it with maybenot_due_list.
  *
  * After a refused opening or batch nothing has happened: keep the events, and
  *   16               try again with longer tapes: the same draws and more behind them

@@ -111,6 +111,16 @@ static void act(sender *s, const uint64_t *row) {
     }
 }
 
+/* Arms the timers by the rows of a batch, the next due first. */
+static void arm(sender *s, const uint64_t *rows, size_t rows_len) {
+    uint64_t due[MAYBENOT_ACTION_WORDS];
+    maybenot_due list = maybenot_due_list(rows, rows_len, due, LENGTH(due));
+    if (list.refusal != MAYBENOT_ACCEPTED) /* these are rows of a batch, and there is room for them */
+        abort();
+    for (uint64_t k = 0; k < list.rows; k++)
+        act(s, due + k * MAYBENOT_ACTION_WORDS);
+}
+
 static bool open_framework(sender *s) {
     maybenot_opened opened = maybenot_opening(framework_frac, 0.0, s->time, TABLES, s->values, VALUES);
     if (opened.refusal != MAYBENOT_ACCEPTED) {
@@ -132,8 +142,7 @@ static bool batch(sender *s) {
         if (r.refusal == MAYBENOT_ACCEPTED) {
             s->events_len = 0;
             drop_draws(s, r.chance_used, r.value_used);
-            for (uint64_t k = 0; k < r.actions; k++)
-                act(s, out + k * MAYBENOT_ACTION_WORDS);
+            arm(s, out, r.actions * MAYBENOT_ACTION_WORDS);
             return true;
         }
         if (r.refusal != MAYBENOT_DRAWS_USED_UP && r.refusal != MAYBENOT_DRAW_OUT_OF_RANGE)

@@ -10,8 +10,8 @@ use maybenot_link::dist::{Dist, DistType};
 use maybenot_link::event::Event;
 use maybenot_link::state::{State, Trans};
 use maybenot_link::{
-    Draws, Framework, Invalid, Machine, MachineId, Refused, Tables, Timer, TriggerAction,
-    TriggerEvent,
+    Draws, DueOrder, Framework, InDueOrder, Invalid, Machine, MachineId, Refused, Tables, Timer,
+    TriggerAction, TriggerEvent,
 };
 use std::error::Error;
 use std::hash::{BuildHasher, BuildHasherDefault, DefaultHasher};
@@ -214,8 +214,9 @@ impl Sender {
         }
     }
 
-    /// Hands over what happened, and does what the framework answers. A refused call has changed
-    /// nothing, so the events stay in the list until a call with them is accepted.
+    /// Hands over what happened, and arms the timers by what the framework answers, the next due first.
+    /// A refused call has changed nothing, so the events stay in the list until a call with them is
+    /// accepted.
     fn batch(&mut self) -> Result<(), Refused> {
         for action in self.trigger()? {
             println!("{:>9}  {action}", self.time);
@@ -224,16 +225,16 @@ impl Sender {
         Ok(())
     }
 
-    /// The actions to take. A call that is refused for its draws is tried again with fresh ones; any
-    /// other refusal would come again.
-    fn trigger(&mut self) -> Result<Vec<TriggerAction>, Refused> {
+    /// The actions to take, as they fall due. A call that is refused for its draws is tried again with
+    /// fresh ones; any other refusal would come again.
+    fn trigger(&mut self) -> Result<InDueOrder, Refused> {
         let mut tries = 1;
         loop {
             match self.framework.trigger_events(&self.happened, self.time, &mut self.source) {
                 Ok(actions) => {
                     self.happened.clear();
                     self.batches += 1;
-                    return Ok(actions.to_vec());
+                    return Ok(actions.in_due_order());
                 }
                 Err(refused) if refused.is_for_draws() && tries < TRIES => tries += 1,
                 Err(refused) => return Err(refused),

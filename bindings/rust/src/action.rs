@@ -231,6 +231,35 @@ impl TriggerAction {
             _ => return None,
         })
     }
+
+    /// The row of this action, as the library writes it.
+    ///
+    /// ```
+    /// use maybenot_link::{MachineId, TriggerAction};
+    ///
+    /// let machine = MachineId::from_raw(3);
+    /// let action = TriggerAction::UpdateTimer { duration: 70, replace: true, machine };
+    /// assert_eq!(action.to_row(), [3, 4, 2, 0, 0, 70]);
+    /// assert_eq!(TriggerAction::from_row(action.to_row()), Some(action));
+    /// ```
+    pub fn to_row(&self) -> [u64; 6] {
+        let machine = self.machine().into_raw() as u64;
+        let flags = |bypass: bool, replace: bool| u64::from(bypass) + 2 * u64::from(replace);
+        match *self {
+            TriggerAction::Cancel { timer: Timer::Action, .. } => [machine, 1, 0, 0, 0, 0],
+            TriggerAction::Cancel { timer: Timer::Internal, .. } => [machine, 1, 0, 1, 0, 0],
+            TriggerAction::Cancel { timer: Timer::All, .. } => [machine, 1, 0, 2, 0, 0],
+            TriggerAction::SendPadding { timeout, bypass, replace, .. } => {
+                [machine, 2, flags(bypass, replace), 0, timeout, 0]
+            }
+            TriggerAction::BlockOutgoing { timeout, duration, bypass, replace, .. } => {
+                [machine, 3, flags(bypass, replace), 0, timeout, duration]
+            }
+            TriggerAction::UpdateTimer { duration, replace, .. } => {
+                [machine, 4, flags(false, replace), 0, 0, duration]
+            }
+        }
+    }
 }
 
 /// `SendPadding in 10 us, bypass, machine 0`.

@@ -256,7 +256,8 @@ impl<T: Borrow<Tables>> Framework<T> {
 
     /// Triggers the events at this time, and returns the actions to take, at most one for each machine
     /// and in the order of machines. They take the place of what the machine had pending; a machine
-    /// without an action in the list keeps what it has.
+    /// without an action in the list keeps what it has. To arm timers from the front, take them
+    /// [in due order](crate::DueOrder::in_due_order).
     ///
     /// The draws come from `draws`. Chances are drawn ahead, as many as the call may take, and what is
     /// left of them is kept for the next call. Values:

@@ -2,7 +2,7 @@
 //!
 //! The names are those of the crate `maybenot`: build [`Machine`]s of [`State`](state::State)s, turn
 //! them into [`Tables`], open a [`Framework`], hand it each [`TriggerEvent`] and do what each
-//! [`TriggerAction`] says. What differs:
+//! [`TriggerAction`] says, in the order of machines or as they fall due ([`DueOrder`]). What differs:
 //!
 //! - times, timeouts and durations are `u64` microseconds;
 //! - random numbers are the sender's: it lends them as two tapes ([`Framework::batch`]) or as a source
@@ -99,6 +99,7 @@
 
 mod asking;
 mod draws;
+mod due_order;
 mod framework;
 mod refusal;
 mod rows;
@@ -118,6 +119,7 @@ pub mod time;
 
 pub use action::{Timer, TriggerAction};
 pub use draws::Draws;
+pub use due_order::{due_list, DueOrder, InDueOrder};
 pub use event::TriggerEvent;
 pub use framework::{Framework, MachineId, Used};
 pub use machine::{Invalid, Machine};

@@ -51,7 +51,7 @@ macro_rules! refusals {
 refusals! {
     1 FrameworkPaddingFraction "the framework's padding fraction is outside 0 to 1";
     2 FrameworkBlockingFraction "the framework's blocking fraction is outside 0 to 1";
-    3 TableSize "a table is not whole rows, or there are more than 16 machines";
+    3 TableSize "a table or the rows to be listed are not whole rows, or there are more than 16 machines";
     4 MachinePaddingFraction "a machine's padding fraction is below 0 or above 1";
     5 MachineBlockingFraction "a machine's blocking fraction is below 0 or above 1";
     6 NumberOfStates "a machine has no states, or more than 100,000";
@@ -68,7 +68,7 @@ refusals! {
     17 DrawOutOfRange "a draw is out of the range that it was asked for";
     18 FrameworkMisfit "the framework is not one of these tables";
     19 EventList "the event list has an odd number of words or a kind above 9";
-    20 OutputSize "the output is shorter than a row for each machine";
+    20 OutputSize "the output is shorter than a row for each machine, or than the rows to be listed";
     22 SheetForm "a line of the sheet is malformed or misplaced";
     23 SheetRoom "a lent table or the lent sheet is too small";
 }

@@ -142,6 +142,16 @@ pub struct SheetBytes {
     pub bytes: u64,
 }
 
+/// The answer of a due list.
+#[repr(C)]
+#[derive(Debug, Clone, Copy, PartialEq, Eq, Hash)]
+pub struct Due {
+    /// The refusal, or 0.
+    pub refusal: u64,
+    /// How many rows were written.
+    pub rows: u64,
+}
+
 /// The three tables, lent.
 #[derive(Debug, Clone, Copy)]
 pub struct Words<'a> {
@@ -209,6 +219,10 @@ const _: () = {
     assert!(offset_of!(SheetBytes, refusal) == 0);
     assert!(offset_of!(SheetBytes, bytes) == 8);
 
+    assert!(size_of::<Due>() == 16);
+    assert!(offset_of!(Due, refusal) == 0);
+    assert!(offset_of!(Due, rows) == 8);
+
     assert!(MACHINE_LINE == 131);
     assert!(STATE_LINE == 1223);
     assert!(TRANSITION_LINE == 47);
@@ -239,7 +253,7 @@ impl Words<'_> {
 }
 
 mod c {
-    use super::{Framework, Opened, Reply, SheetBytes, SheetRows};
+    use super::{Due, Framework, Opened, Reply, SheetBytes, SheetRows};
 
     extern "C" {
         pub fn maybenot_opening(
@@ -298,6 +312,13 @@ mod c {
             sheet: *mut u8,
             sheet_len: usize,
         ) -> SheetBytes;
+
+        pub fn maybenot_due_list(
+            rows: *const u64,
+            rows_len: usize,
+            out: *mut u64,
+            out_len: usize,
+        ) -> Due;
 
         pub fn maybenot_interface_1() -> u64;
     }
@@ -423,4 +444,13 @@ pub fn sheet_write(tables: Words<'_>, sheet: &mut [u8]) -> SheetBytes {
             sheet.len(),
         )
     }
+}
+
+/// Puts the rows of a batch into `out` in the order in which they fall due; the words behind the last
+/// row stay. Rows that are not whole are refused (3), then a kind other than 1 to 4 (14), then an output
+/// that is shorter than the rows (20). A refused call leaves the output as it was.
+pub fn due_list(rows: &[u64], out: &mut [u64]) -> Due {
+    // SAFETY: each pointer comes with the length of its slice; the function reads inside these alone
+    // and writes inside the output, which is lent to nobody else.
+    unsafe { c::maybenot_due_list(rows.as_ptr(), rows.len(), out.as_mut_ptr(), out.len()) }
 }

@@ -41,6 +41,16 @@ transitionWords = 2
 abbrev pub rowWords : ℕ
 rowWords = 6
 
+-- the words of an action's row that are looked at
+abbrev pub rowMachine : ℕ
+rowMachine = 0
+
+abbrev pub rowKind : ℕ
+rowKind = 1
+
+abbrev pub rowTimeout : ℕ
+rowTimeout = 4
+
 -- ---- where the fields of a machine row begin
 abbrev pub allowedPaddingPackets : ℕ
 allowedPaddingPackets = 0

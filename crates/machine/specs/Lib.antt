@@ -3,3 +3,4 @@ pub mod Constants
 pub mod Event
 pub mod Source
 pub mod State
+pub mod Part

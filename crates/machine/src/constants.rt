@@ -33,6 +33,13 @@ pub const TRANSITION_WORDS: usize = 2;
 // Words of an action's row in the output: machine, kind, flags, timer, timeout and duration.
 pub const ROW_WORDS: usize = 6;
 
+// The words of an action's row that are looked at.
+pub const ROW_MACHINE: usize = 0;
+
+pub const ROW_KIND: usize = 1;
+
+pub const ROW_TIMEOUT: usize = 4;
+
 // The words of a machine row: its padding and blocking budgets, then its own part of the state table.
 pub const ALLOWED_PADDING_PACKETS: usize = 0;
 

@@ -1,4 +1,5 @@
 // What a sender links: the framework's entries as C functions. All exports stand in this crate.
+use due::Due;
 use sheet::SheetBytes;
 use sheet::SheetRows;
 use steps::Framework;
@@ -8,6 +9,7 @@ ghost use Rattle.steps.specs.Framework as Spec;
 ghost use mathlib.Core.List.{[]};
 ghost use Rattle.machine.specs.Source.{tapes};
 ghost use Rattle.events.specs.Run.{tables};
+ghost use Rattle.due.specs.Due.{Lists};
 ghost use Rattle.sheet.specs.Reader.{Reads};
 ghost use Rattle.sheet.specs.Writer.{Writes};
 ghost use Rattle.sender.specs.Reply.{Promised};
@@ -128,4 +130,12 @@ pub extern "C" fn maybenot_sheet_write(
         r (now (sheet .exit)) ⌝ }
 {
     sheet::write(machines, states, transitions, sheet)
+}
+
+// Puts the rows of a batch into out, in the order in which they fall due.
+#[no_mangle]
+pub extern "C" fn maybenot_due_list(rows: &[u64], out: &mut [u64]) -> Due
+    ensures { λ r. ⌜ Lists (now (rows .entry)) (now (out .entry)) r (now (out .exit)) ⌝ }
+{
+    due::due_list(rows, out)
 }

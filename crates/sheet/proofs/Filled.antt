@@ -6,7 +6,7 @@ use native.Mathlib.Numerals.{add-one}
 use native.Mathlib.Omega.{arith}
 use lib.ListN.{length, take, drop, set, getD, length-drop}
 use lib.Seq.{drop-cons, drop-drop, set-at, length-take-le}
-use Rattle.text.specs.Part.{through, from, written}
+use Rattle.machine.specs.Part.{through, from, written}
 use Rattle.sheet.specs.Sheet.{kindColumns, wordColumns, lineBytes, each}
 use Rattle.sheet.specs.Reader.{cellOf, wordIn, wordsOf}
 use Rattle.sheet.specs.Laws.{each-more, length-each}

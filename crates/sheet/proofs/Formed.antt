@@ -9,7 +9,7 @@ use lib.ListN.{length, drop, length-drop}
 use lib.Seq.{drop-drop}
 use borrow.Author.Tests.{eqb-true, eqb-false, eq-eqb, ne-eqb}
 use Rattle.machine.specs.Constants.{machineWords, stateWords, transitionWords}
-use Rattle.text.specs.Part.{from}
+use Rattle.machine.specs.Part.{from}
 use Rattle.sheet.specs.Sheet.{machineKind, stateKind, transitionKind, lineBytes}
 use Rattle.sheet.specs.Reader.{lines, behind, machineLines, stateLines, transitionLines, behindMachines, behindStates, behindTransitions, formOf}
 use Rattle.sheet.specs.declared.reading.Form.{Form}

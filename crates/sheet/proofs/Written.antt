@@ -9,7 +9,7 @@ use lib.ListN.{length, take, drop, set, getD, length-append, length-drop}
 use lib.Seq.{take-length, length-take-le}
 use Rattle.machine.specs.Constants.{machineWords, stateWords, transitionWords}
 use Rattle.text.specs.Columns.{right, cellIn}
-use Rattle.text.specs.Part.{through, from, written}
+use Rattle.machine.specs.Part.{through, from, written}
 use Rattle.text.proofs.Cells.{Upto, start, more, cell, feed, lent}
 use Rattle.sheet.specs.Sheet.{machineKind, stateKind, transitionKind, kindColumns, wordColumns, lineBytes, bytesOf, each, cells, lineOf, linesOf, sheetOf}
 use Rattle.sheet.specs.Writer.{over}

@@ -8,7 +8,7 @@ use lib.ListN.{length, take, drop, set, getD, length-append, length-drop}
 use lib.Seq.{set-split, take-all, length-take-le, drop-at, take-at, drop-cons, set-at, take-length, drop-length, drop-drop}
 use Rattle.machine.specs.Constants.{rowWords}
 use Rattle.text.specs.Columns.{mark, rests, right, column, cellIn, rowLine, rowIn}
-use Rattle.text.specs.Part.{through, from}
+use Rattle.machine.specs.Part.{through, from}
 
 -- the text from the place of a store on
 stored : (l : List ℕ) (i a : ℕ) → i < length l → drop i (set l i a) ≡ a ∷ drop (suc i) l

@@ -4,7 +4,7 @@ use mathlib.Core.Path.{_≡_, refl, _∙_}
 use mathlib.Core.List.{_++_}
 use native.Mathlib.Omega.{arith}
 use lib.ListN.{length, drop}
-use Rattle.text.specs.Part.{same}
+use Rattle.machine.specs.Part.{same}
 use Rattle.sheet.specs.Sheet.{each}
 use Rattle.sheet.specs.Reader.{wordsOf, tableOf}
 use Rattle.sheet.proofs.Room.{inside, next-at}

@@ -2,7 +2,7 @@
 use mathlib.Core.Path.{_∙_}
 use native.Mathlib.Omega.{arith}
 use lib.ListN.{length-set}
-use Rattle.text.specs.Part.{same}
+use Rattle.machine.specs.Part.{same}
 use Rattle.sheet.proofs.Written.{lined}
 use borrow.Author.Needs.{needs}
 use Rattle.sheet.proofs.writing.put_line.Statement.{statement}

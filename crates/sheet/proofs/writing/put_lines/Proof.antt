@@ -5,7 +5,7 @@ use native.Mathlib.Omega.{arith}
 use native.Mathlib.Numerals.{add-one}
 use native.Mathlib.Nat.{mul-zero, mul-suc}
 use lib.ListN.{length, length-take, length-drop}
-use Rattle.text.specs.Part.{same}
+use Rattle.machine.specs.Part.{same}
 use Rattle.sheet.proofs.Room.{place}
 use Rattle.sheet.proofs.Written.{Lines, no-line, one-line, all-lines}
 use borrow.Author.Needs.{needs}

@@ -14,16 +14,28 @@ through out at ys = take at out ++ (ys ++ drop (length out - at) (drop at out))
 abbrev pub from : List ℕ → ℕ → List ℕ
 from out at = take (length out - at) (drop at out)
 
+-- it is all that stands there
+pub from-is : (out : List ℕ) (at : ℕ) → from out at ≡ drop at out
+from-is out at = ap (λ (k : ℕ). take k (drop at out)) (sym (length-drop at out)) ∙ take-length (drop at out)
+
+pub through-is : (out ys : List ℕ) (at : ℕ) → through out at ys ≡ take at out ++ ys
+through-is out ys at =
+    let e : drop (length out - at) (drop at out) ≡ drop (length (drop at out)) (drop at out) = rw length-drop in
+    rw (e, drop-length (drop at out), append-nil ys)
+
+-- a call that puts w over the first k words of its part
+pub over-part : (out w ys : List ℕ) (at k : ℕ) → ys ≡ w ++ drop k (from out at)
+    → through out at ys ≡ take at out ++ (w ++ drop (at + k) out)
+over-part out w ys at k y = rw (through-is, y, from-is, drop-drop)
+
 -- Where the output is R and then what stood there at first, o, and the call puts w at the front of its part, it is then
 -- R, w and what stood there.
 pub written : (R o out w ys : List ℕ) (at k : ℕ) → at ≡ length R → k ≡ length w → out ≡ R ++ drop at o
     → ys ≡ w ++ drop k (from out at) → through out at ys ≡ R ++ w ++ drop (at + k) o
 written R o out w ys at k e q h y =
-    let D : List ℕ = drop at o in
-    let d : drop at out ≡ D = ap (drop at) h ∙ drop-at R D at (sym e) in
-    let t : take at out ≡ R = ap (take at) h ∙ take-at R D at (sym e) in
-    let l : length out - at ≡ length D = omega (arith, simp length-append at (ap length h)) in
-    rw (y, t, d, l, take-length D, drop-length D) (simp (append-nil, append-assoc, drop-drop))
+    let d : drop at out ≡ drop at o = ap (drop at) h ∙ drop-at R (drop at o) at (sym e) in
+    let t : take at out ≡ R = ap (take at) h ∙ take-at R (drop at o) at (sym e) in
+    rw (through-is, y, from-is, t, d, drop-drop) (sym (append-assoc R w (drop (at + k) o)))
 
 -- A part that comes back as long as it was leaves the output's length.
 pub same : (out ys : List ℕ) (at : ℕ) → at ≤ length out → length ys ≡ length (from out at)

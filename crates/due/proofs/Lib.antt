@@ -1,0 +1,9 @@
+pub mod Behind
+pub mod Row
+pub mod Copied
+pub mod Inserted
+pub mod Few
+pub mod Merged
+pub mod Halves
+pub mod Placed
+pub mod Listed
