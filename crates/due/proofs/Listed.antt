@@ -9,7 +9,7 @@ use borrow.Author.Tests.{eq-eqb, ne-eqb, le-leb, lt-leb}
 use Rattle.machine.specs.Constants.{rowWords}
 use Rattle.due.specs.Order.{notAfter}
 use Rattle.due.specs.Sort.{sorted}
-use Rattle.due.specs.Due.{rowsOf, wordsOf, allRows, kindsKnown, dueRefusal, inDueOrder, noRows, Listed, dueList, Lists}
+use Rattle.due.specs.Due.{rowsOf, wordsOf, allRows, kindsKnown, dueRefusal, noRows, Listed, dueList, Lists}
 use Rattle.due.specs.declared.Due.{Due}
 
 module _ (rows out : List ℕ) where
@@ -34,7 +34,7 @@ module _ (rows out : List ℕ) where
     pub accepted : (n : ℕ) (x : List ℕ) → n ≡ length rows / rowWords → known ≡ true → length rows ≤ length out
         → x ≡ wordsOf (sorted notAfter (rowsOf n rows)) ++ drop (rowWords * n) out
         → Lists rows out (record { refusal = 0; rows = n }) x
-    unfolding dueList dueRefusal inDueOrder
+    unfolding dueList dueRefusal
     accepted n x is h l e =
         let m : rowWords * n ≡ length rows = omega arith in
         leaves _ x
