@@ -4,3 +4,4 @@ pub mod Event
 pub mod Source
 pub mod State
 pub mod Part
+pub mod Same

@@ -92,7 +92,7 @@ smaller k (suc j) x h =
     smaller k j (x / 10) (omega (arith, pow-suc 10 (k + j), subst (λ (e : ℕ). x < 10 ^ e) (add-suc k j) h))
 
 -- two numbers with the same columns are one
-pub one-number : (w a b : ℕ) → a < 10 ^ w → b < 10 ^ w → rests w a ≡ rests w b → a ≡ b
+one-number : (w a b : ℕ) → a < 10 ^ w → b < 10 ^ w → rests w a ≡ rests w b → a ≡ b
 one-number w a b h g e = sym (read-rests w a h) ∙ ap readBack e ∙ read-rests w b g
 
 -- the first column has no digit, so a number of i columns is below 10 ^ (i - 1)
@@ -112,7 +112,7 @@ grows bytes i m l e b = rw (add-one, take-suc bytes i 0 l, e, b)
 
 module _ (bytes : List ℕ) (v : ℕ) (is : bytes ≡ right wordColumns v) where
   -- column i of a word, with j columns behind it before the last
-  pub at-column : (i j : ℕ) → suc i + j ≡ 20
+  at-column : (i j : ℕ) → suc i + j ≡ 20
       → (take i bytes ≡ rests i (cut j (v / 10) / 10)) × (getD bytes i 0 ≡ mark (cut j (v / 10)))
   unfolding right rests
   at-column i j e =
@@ -128,7 +128,7 @@ module _ (bytes : List ℕ) (v : ℕ) (is : bytes ≡ right wordColumns v) where
       )
 
   -- the last
-  pub at-last : (take 20 bytes ≡ rests 20 (v / 10)) × (getD bytes 20 0 ≡ 48 + v % 10)
+  at-last : (take 20 bytes ≡ rests 20 (v / 10)) × (getD bytes 20 0 ≡ 48 + v % 10)
   unfolding right
   at-last =
       let r = length-rests 20 (v / 10) in (

@@ -12,7 +12,7 @@ use Rattle.sheet.specs.Reader.{cellOf, wordIn, wordsOf}
 use Rattle.sheet.specs.Laws.{each-more, length-each}
 
 module _ (line : List ℕ) (words i : ℕ) (some : i ≤ words) (size : length line ≡ lineBytes words) where
-  pub length-words : length (each wordIn wordColumns i (drop kindColumns line)) ≡ i
+  length-words : length (each wordIn wordColumns i (drop kindColumns line)) ≡ i
   length-words =
       length-each wordIn wordColumns 1 (λ xs h. refl) i (drop kindColumns line) (omega (arith, length-drop kindColumns line))
       ∙ omega arith
@@ -32,7 +32,7 @@ module _ (text : List ℕ) (words size i : ℕ) (fits : size ≡ lineBytes words
   unfolding wordsOf
   length-row line h = length-words line words words (omega arith) (h ∙ fits)
 
-  pub length-rows : size * i ≤ length text → length (each (wordsOf words) size i text) ≡ words * i
+  length-rows : size * i ≤ length text → length (each (wordsOf words) size i text) ≡ words * i
   length-rows h = length-each (wordsOf words) size words length-row i text h
 
   -- a row more

@@ -8,8 +8,9 @@ use lib.Dec.{eqb}
 use lib.ListN.{length, take, drop, getD, length-drop}
 use lib.Seq.{take-all}
 use Rattle.text.specs.Columns.{rests, right}
+use Rattle.machine.specs.Same.{same}
 use Rattle.sheet.specs.Sheet.{kindColumns, wordColumns, lineBytes}
-use Rattle.sheet.specs.Reader.{same, leading, isCell, isLine}
+use Rattle.sheet.specs.Reader.{leading, isCell, isLine}
 
 digit-columns : (kind : ℕ) → kind < 10 → right kindColumns kind ≡ 32 ∷ 32 ∷ 32 ∷ (48 + kind) ∷ []
 unfolding right rests

@@ -13,9 +13,10 @@ use Rattle.machine.specs.Part.{through, from, written}
 use Rattle.text.proofs.Cells.{Upto, start, more, cell, feed, lent}
 use Rattle.sheet.specs.Sheet.{machineKind, stateKind, transitionKind, kindColumns, wordColumns, lineBytes, bytesOf, each, cells, lineOf, linesOf, sheetOf}
 use Rattle.sheet.specs.Writer.{over}
-use Rattle.sheet.specs.Laws.{each-more, length-each}
+use Rattle.sheet.specs.Laws.{each-more}
 use Rattle.sheet.specs.RoundTrip.Cells.{length-cells}
 use Rattle.sheet.specs.RoundTrip.Lines.{kept}
+use Rattle.sheet.specs.RoundTrip.Tables.{length-lines}
 
 -- ---- the cells of a row
 
@@ -101,10 +102,6 @@ module _ (kind words : ℕ) (table o : List ℕ) where
 
 -- ---- the sheet
 
-length-block : (kind words n : ℕ) (table : List ℕ) → words * n ≤ length table
-    → length (each (lineOf kind) words n table) ≡ lineBytes words * n
-length-block kind words n table h = length-each (lineOf kind) words (lineBytes words) (kept kind words .long) n table h
-
 module _ (M S T : List ℕ) where
   abbrev m : ℕ
   m = length M / machineWords
@@ -132,9 +129,9 @@ module _ (M S T : List ℕ) where
       ∙ omega (
         arith,
         length-append states transitions,
-        length-block machineKind machineWords m M (omega arith),
-        length-block stateKind stateWords s S (omega arith),
-        length-block transitionKind transitionWords t T (omega arith),
+        length-lines machineKind machineWords M,
+        length-lines stateKind stateWords S,
+        length-lines transitionKind transitionWords T,
       )
 
   -- the lines of each kind are put behind those before
@@ -149,9 +146,9 @@ module _ (M S T : List ℕ) where
   sheeted o x y z ex ey ez =
       let b : ℕ = lineBytes machineWords * m in
       let r : ℕ = b + lineBytes stateWords * s in
-      let a = length-block machineKind machineWords m M (omega arith) in
-      let c = length-block stateKind stateWords s S (omega arith) in
-      let d = length-block transitionKind transitionWords t T (omega arith) in
+      let a = length-lines machineKind machineWords M in
+      let c = length-lines stateKind stateWords S in
+      let d = length-lines transitionKind transitionWords T in
       let f : length (machines ++ states) ≡ r = length-append machines states ∙ omega arith in
       let e : through x b y ≡ machines ++ states ++ drop r o =
       written machines o x states y b (lineBytes stateWords * s) (sym a) (sym c) ex ey in

@@ -1,20 +1,20 @@
--- Laws of `each`, `leading` and `same`, which the code and the theorems cite.
+-- Laws of `each` and `leading`, and of cells, which the code and the theorems cite.
 use Prim.Native.Nat.{ℕ, zero, suc, _+_, _-_, _*_, _^_, _≤_, _<_}
-use mathlib.Core.Path.{_≡_, refl, sym, ap, _∙_}
-use mathlib.Core.Bool.{Bool, true, false, cond, _&&_, and-eq-true-iff}
-use mathlib.Core.List.{List, [], _∷_, _++_, append-assoc, append-nil}
+use mathlib.Core.Path.{_≡_, sym, ap, _∙_}
+use mathlib.Core.Bool.{Bool, true, false, and-eq-true-iff}
+use mathlib.Core.List.{List, _++_, append-assoc, append-nil}
 use native.Mathlib.Omega.{arith}
 use native.Mathlib.Numerals.{add-one}
 use native.Mathlib.Nat.{mul-suc, mul-zero, zero-add, sub-zero}
-use lib.Dec.{eqb, ltb, lit<}
+use lib.Dec.{ltb, lit<}
 use lib.ListN.{length, take, drop, length-append, length-drop}
 use lib.Seq.{drop-drop, length-take-le}
-use borrow.Author.Tests.{eqb-true, eq-eqb, ltb-true, lt-ltb}
-use Rattle.sheet.specs.Sheet.{each}
+use borrow.Author.Tests.{ltb-true, lt-ltb}
+use Rattle.machine.specs.Same.{same, same-refl, same-true}
 use Rattle.text.specs.Columns.{right}
 use Rattle.text.specs.Fits.{readBack, reads-back}
-use Rattle.sheet.specs.Sheet.{wordColumns}
-use Rattle.sheet.specs.Reader.{same, leading, isCell}
+use Rattle.sheet.specs.Sheet.{wordColumns, each}
+use Rattle.sheet.specs.Reader.{leading, isCell}
 
 -- ---- each
 
@@ -76,35 +76,6 @@ module _ (test : List ℕ → Bool) (step : ℕ) where
   passed-all n xs i e h =
       let k : n - i ≡ 0 = omega arith in
       sym (h ∙ rw k (omega arith))
-
-  -- never more than are looked at
-  pub leading-most : (n : ℕ) (xs : List ℕ) → leading test step n xs ≤ n
-  unfolding leading
-  leading-most zero xs = omega arith
-  leading-most (suc n) xs = by-test (test (take step xs)) (leading-most n (drop step xs))
-    where
-      by-test : (b : Bool) → leading test step n (drop step xs) ≤ n
-          → cond b (suc (leading test step n (drop step xs))) 0 ≤ suc n
-      by-test true h = omega (arith, h)
-      by-test false h = omega arith
-
--- ---- same
-
-pub same-refl : (xs : List ℕ) → same xs xs ≡ true
-unfolding same
-same-refl [] = refl
-same-refl (x ∷ xs) = rw (eq-eqb x x refl) (same-refl xs)
-
-pub same-true : (xs ys : List ℕ) → same xs ys ≡ true → xs ≡ ys
-unfolding same
-same-true [] [] h = refl
-same-true [] (y ∷ ys) h = let z : _≡_ {A = Bool} false true = h in cc
-same-true (x ∷ xs) [] h = let z : _≡_ {A = Bool} false true = h in cc
-same-true (x ∷ xs) (y ∷ ys) h = by-head (eqb x y) refl h (same-true xs ys)
-  where
-    by-head : (b : Bool) → eqb x y ≡ b → b && same xs ys ≡ true → (same xs ys ≡ true → xs ≡ ys) → x ∷ xs ≡ y ∷ ys
-    by-head true e g rest = rw (eqb-true x y e, rest g)
-    by-head false e g rest = let z : _≡_ {A = Bool} false true = g in cc
 
 -- ---- cells
 

@@ -1,12 +1,13 @@
 -- What the reader answers and leaves. It judges the sheet's form only. 22: a malformed or misplaced line; 23: a lent table is
 -- too small, looked at only where the form has passed.
 use Prim.Native.Nat.{ℕ, zero, suc, _+_, _*_, _/_, _^_}
-use mathlib.Core.Bool.{Bool, true, false, cond, _&&_}
+use mathlib.Core.Bool.{Bool, cond, _&&_}
 use mathlib.Core.List.{List, [], _∷_}
 use mathlib.Core.Path.{_≡_}
 use lib.Dec.{eqb, ltb, leb}
 use lib.ListN.{length, take, drop, getD}
 use Rattle.machine.specs.Constants.{machineWords, stateWords, transitionWords}
+use Rattle.machine.specs.Same.{same}
 use Rattle.text.specs.Columns.{right}
 use Rattle.text.specs.Fits.{readBack}
 use Rattle.sheet.specs.Sheet.{each, machineKind, stateKind, transitionKind, kindColumns, wordColumns, lineBytes}
@@ -14,13 +15,6 @@ use Rattle.sheet.specs.Writer.{over}
 use Rattle.sheet.specs.declared.SheetRows.{SheetRows}
 use Rattle.sheet.specs.declared.cell.Cell.{Cell}
 use Rattle.sheet.specs.declared.reading.Form.{Form}
-
--- the same bytes
-unfoldable pub same : List ℕ → List ℕ → Bool
-same [] [] = true
-same [] (y ∷ ys) = false
-same (x ∷ xs) [] = false
-same (x ∷ xs) (y ∷ ys) = eqb x y && same xs ys
 
 -- how many times in a row, and at most n times, the next `step` elements pass the test
 unfoldable pub leading : (List ℕ → Bool) → ℕ → ℕ → List ℕ → ℕ

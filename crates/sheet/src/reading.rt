@@ -17,8 +17,9 @@ ghost use Prim.Native.Nat.{_+_, _*_, _≤_, _<_};
 ghost use lib.ListN.{length, take, drop};
 ghost use Rattle.machine.specs.Constants.{machineWords, stateWords, transitionWords};
 ghost use Rattle.text.specs.Columns.{right};
+ghost use Rattle.machine.specs.Same.{same};
 ghost use Rattle.sheet.specs.Sheet.{kindColumns, wordColumns, lineBytes, bytesOf};
-ghost use Rattle.sheet.specs.Reader.{same, isCell, leading, isLine, wordsOf, lines as linesIn, tableOf, behindMachines, behindStates, formOf};
+ghost use Rattle.sheet.specs.Reader.{isCell, leading, isLine, wordsOf, lines as linesIn, tableOf, behindMachines, behindStates, formOf};
 
 // The lines of each kind at the front of a sheet, in their order, and whether they are all of it.
 pub struct Form {

@@ -1,10 +1,10 @@
 -- The calls of the writer and of the reader: what is known where one is not refused, and what it then answers and leaves.
-use Prim.Native.Nat.{ℕ, _*_, _%_, _≤_, _<_}
+use Prim.Native.Nat.{ℕ, _*_, _%_, _≤_}
 use mathlib.Core.Path.{_≡_, refl}
-use mathlib.Core.Bool.{Bool, true, false, cond, _&&_, and-eq-true-iff}
+use mathlib.Core.Bool.{Bool, true, false, _&&_, and-eq-true-iff}
 use mathlib.Core.List.{List}
 use native.Mathlib.Omega.{arith}
-use lib.Dec.{eqb, leb, lit<}
+use lib.Dec.{eqb, leb}
 use lib.ListN.{length}
 use borrow.Author.Tests.{eqb-true, leb-true, le-leb}
 use Rattle.machine.specs.Constants.{machineWords, stateWords, transitionWords}
@@ -13,11 +13,6 @@ use Rattle.sheet.specs.Writer.{wholeRows, writeRefusal, over, sheetWrite
 use Rattle.sheet.specs.Reader.{machineLines, stateLines, transitionLines, formOf, roomFor, readRefusal, sheetRead}
 use Rattle.sheet.specs.RoundTrip.U64.{Words}
 use Rattle.sheet.specs.RoundTrip.Form.{Sound, machinesOf, statesOf, transitionsOf}
-
--- a test that leaves no refusal
-passed : (a : Bool) (x y : ℕ) → 0 < y → cond a x y ≡ 0 → (a ≡ true) × (x ≡ 0)
-passed true x y p h = (refl, h)
-passed false x y p h = absurd (omega (arith, p, h))
 
 -- ---- the writer
 
@@ -30,16 +25,30 @@ module _ (m s t sheet : List ℕ) where
       by-test true e = eqb-true (writeRefusal m s t sheet) 0 e
       by-test false e = rw e at h
 
+  -- both tests have passed
+  tests-passed : writeRefusal m s t sheet ≡ 0
+      → (wholeRows (length m) (length s) (length t) ≡ true) × (leb (length (sheetOf m s t)) (length sheet) ≡ true)
+  unfolding writeRefusal
+  tests-passed h =
+      by-tests (wholeRows (length m) (length s) (length t)) refl (leb (length (sheetOf m s t)) (length sheet)) refl
+    where
+      by-tests : (a : Bool) → wholeRows (length m) (length s) (length t) ≡ a
+          → (b : Bool) → leb (length (sheetOf m s t)) (length sheet) ≡ b
+          → (a ≡ true) × (b ≡ true)
+      by-tests true e true f = (refl, refl)
+      by-tests true e false f = absurd (omega (arith, simp (e, f) at h))
+      by-tests false e true f = absurd (omega (arith, simp (e, f) at h))
+      by-tests false e false f = absurd (omega (arith, simp (e, f) at h))
+
   -- the tables are whole rows, and their sheet has room
   pub write-accepted : sheetWrite m s t sheet .answer .refusal ≡ 0 → Words m → Words s → Words t
       → Sound m s t × (length (sheetOf m s t) ≤ length sheet)
-  unfolding writeRefusal wholeRows
+  unfolding wholeRows
   write-accepted h wm ws wt =
       let a = eqb (length m % machineWords) 0 in
       let b = eqb (length s % stateWords) 0 in
       let c = eqb (length t % transitionWords) 0 in
-      let room = leb (length (sheetOf m s t)) (length sheet) in
-      let g = passed (a && (b && c)) (cond room 0 23) 3 (lit< tt) (not-refused h) in
+      let g = tests-passed (not-refused h) in
       let ab = and-eq-true-iff a (b && c) .0 (g .0) in
       let bc = and-eq-true-iff b c .0 (ab .1) in (
         record {
@@ -50,7 +59,7 @@ module _ (m s t sheet : List ℕ) where
           state-words = ws;
           transition-words = wt;
         },
-        leb-true (length (sheetOf m s t)) (length sheet) (passed room 0 23 (lit< tt) (g .1) .0),
+        leb-true (length (sheetOf m s t)) (length sheet) (g .1),
       )
 
   pub writes : Sound m s t → length (sheetOf m s t) ≤ length sheet
@@ -73,7 +82,15 @@ module _ (sheet m s t : List ℕ) where
   -- the form has passed
   pub form-passed : readRefusal sheet m s t ≡ 0 → formOf sheet .whole ≡ true
   unfolding readRefusal
-  form-passed h = passed (formOf sheet .whole) _ 22 (lit< tt) h .0
+  form-passed h =
+      by-tests (formOf sheet .whole) refl (roomFor (formOf sheet) (length m) (length s) (length t)) refl
+    where
+      by-tests : (a : Bool) → formOf sheet .whole ≡ a
+          → (b : Bool) → roomFor (formOf sheet) (length m) (length s) (length t) ≡ b
+          → a ≡ true
+      by-tests true e b f = refl
+      by-tests false e true f = absurd (omega (arith, simp (e, f) at h))
+      by-tests false e false f = absurd (omega (arith, simp (e, f) at h))
 
   -- the form passes, and the tables have room
   pub not-refused-read : formOf sheet .whole ≡ true → machineWords * formOf sheet .machines ≤ length m

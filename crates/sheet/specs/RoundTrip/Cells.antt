@@ -16,15 +16,15 @@ use Rattle.sheet.specs.RoundTrip.Pieces.{Kept, Exact, Found, leading-wri
 
 -- ---- one cell
 
-pub written-reads : (n : ℕ) → n < 2 ^ 64 → cellOf (right wordColumns n) .word ≡ n
+written-reads : (n : ℕ) → n < 2 ^ 64 → cellOf (right wordColumns n) .word ≡ n
 unfolding cellOf
 written-reads n h = rw (columns-cell n h) (spells n h)
 
-pub cell-is-written : (bytes : List ℕ) → isCell bytes ≡ true → right wordColumns (cellOf bytes .word) ≡ bytes
+cell-is-written : (bytes : List ℕ) → isCell bytes ≡ true → right wordColumns (cellOf bytes .word) ≡ bytes
 unfolding cellOf
 cell-is-written bytes h = rw h (sym (cell-columns bytes h .0))
 
-pub cell-is-u64 : (bytes : List ℕ) → isCell bytes ≡ true → cellOf bytes .word < 2 ^ 64
+cell-is-u64 : (bytes : List ℕ) → isCell bytes ≡ true → cellOf bytes .word < 2 ^ 64
 unfolding cellOf
 cell-is-u64 bytes h = rw h (cell-columns bytes h .1)
 

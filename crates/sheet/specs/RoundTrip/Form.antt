@@ -9,8 +9,9 @@ use lib.ListN.{length}
 use borrow.Author.Tests.{eqb-true}
 use Rattle.machine.specs.Constants.{machineWords, stateWords, transitionWords}
 use Rattle.text.specs.Columns.{right, rests}
+use Rattle.machine.specs.Same.{same}
 use Rattle.sheet.specs.Sheet.{machineKind, stateKind, transitionKind, kindColumns, linesOf, sheetOf}
-use Rattle.sheet.specs.Reader.{same, tableOf, formOf, machineLines, stateLines, transitionLines}
+use Rattle.sheet.specs.Reader.{tableOf, formOf, machineLines, stateLines, transitionLines}
 use Rattle.sheet.specs.Reader.{behindMachines, behindStates, behindTransitions}
 use Rattle.sheet.specs.RoundTrip.U64.{Words}
 use Rattle.sheet.specs.RoundTrip.Tables.{Unlike, unlike-lines, lines-written, table-read, behind-written}

@@ -10,9 +10,9 @@ use lib.Seq.{take-at, drop-at, getD-at, drop-drop, drop-cons}
 use borrow.Author.Tests.{eqb-true, eq-eqb}
 use Rattle.text.specs.Columns.{right}
 use Rattle.text.proofs.Cells.{length-right}
+use Rattle.machine.specs.Same.{same, same-refl, same-true}
 use Rattle.sheet.specs.Sheet.{kindColumns, wordColumns, lineBytes, cells, lineOf}
-use Rattle.sheet.specs.Reader.{same, leading, isCell, isLine, wordsOf}
-use Rattle.sheet.specs.Laws.{same-refl, same-true}
+use Rattle.sheet.specs.Reader.{leading, isCell, isLine, wordsOf}
 use Rattle.sheet.specs.RoundTrip.U64.{Words}
 use Rattle.sheet.specs.RoundTrip.Cells.{length-cells, row-found, row-read, row-again}
 use Rattle.sheet.specs.RoundTrip.Pieces.{Kept, Exact}
@@ -39,7 +39,7 @@ drop-kind : (kind : ℕ) (row : List ℕ) → drop kindColumns (lineOf kind row)
 unfolding lineOf
 drop-kind kind row = drop-at (right kindColumns kind) (behindKind row) kindColumns (length-right kindColumns kind)
 
-pub written-is-line : (kind : ℕ) (row : List ℕ) → Words row → isLine kind (length row) (lineOf kind row) ≡ true
+written-is-line : (kind : ℕ) (row : List ℕ) → Words row → isLine kind (length row) (lineOf kind row) ≡ true
 unfolding isLine lineOf
 written-is-line kind row h =
     let front = right kindColumns kind in
@@ -58,7 +58,7 @@ written-is-line kind row h =
       feed,
     )
 
-pub written-reads : (kind : ℕ) (row : List ℕ) → Words row → wordsOf (length row) (lineOf kind row) ≡ row
+written-reads : (kind : ℕ) (row : List ℕ) → Words row → wordsOf (length row) (lineOf kind row) ≡ row
 unfolding wordsOf
 written-reads kind row h = rw (drop-kind kind row) (row-read row (10 ∷ []) h)
 

@@ -10,7 +10,6 @@ use lib.ListN.{length, take, drop, length-append, length-take, length-drop, take
 use lib.Seq.{take-at, drop-at, take-add, length-take-le}
 use Rattle.sheet.specs.Sheet.{each}
 use Rattle.sheet.specs.Reader.{leading}
-use Rattle.sheet.specs.Laws.{length-each}
 use Rattle.sheet.specs.RoundTrip.U64.{Words, no-words, words-take, words-drop, words-append}
 
 -- what `put` writes of a piece has its size, passes the test, and `get` reads the piece back
@@ -47,10 +46,6 @@ module _ (put get : List ℕ → List ℕ) (test : List ℕ → Bool) (size step
   fewer n table l =
       let e : length table ≡ size * n + size = l ∙ mul-suc size n in
       (length-take-le size table (omega arith), length-drop size table ∙ omega arith)
-
-  -- as many bytes as its pieces have
-  pub length-written : (n : ℕ) (table : List ℕ) → length table ≡ size * n → length (each put size n table) ≡ step * n
-  length-written n table l = length-each put size step (kept .long) n table (omega (arith, l))
 
   -- the pieces of a table are found, and then those of the text behind it
   pub leading-written : (n k : ℕ) (table rest : List ℕ) → length table ≡ size * n → Words table

@@ -10,10 +10,12 @@ use lib.ListN.{length, take, drop, length-append, take-append-drop}
 use lib.Seq.{take-at, drop-at, take-take}
 use Rattle.text.specs.Columns.{right}
 use Rattle.text.proofs.Cells.{length-right}
+use Rattle.machine.specs.Same.{same}
 use Rattle.sheet.specs.Sheet.{each, kindColumns, lineBytes, cells, lineOf, linesOf}
-use Rattle.sheet.specs.Reader.{same, leading, isLine, wordsOf, lines, tableOf, behind}
+use Rattle.sheet.specs.Reader.{leading, isLine, wordsOf, lines, tableOf, behind}
+use Rattle.sheet.specs.Laws.{length-each}
 use Rattle.sheet.specs.RoundTrip.U64.{Words}
-use Rattle.sheet.specs.RoundTrip.Pieces.{Found, leading-none, length-written, leading-written, table-written, found}
+use Rattle.sheet.specs.RoundTrip.Pieces.{Found, leading-none, leading-written, table-written, found}
 use Rattle.sheet.specs.RoundTrip.Lines.{kept, exact}
 
 -- ---- what a text begins with
@@ -52,17 +54,18 @@ unlike-lines kind other w table rest = unlike-each kind other w (length table / 
 
 -- ---- a table that is written
 
+-- a line for each whole row
+pub length-lines : (kind w : ℕ) (table : List ℕ) → length (linesOf kind w table) ≡ lineBytes w * (length table / w)
+unfolding linesOf
+length-lines kind w table =
+    length-each (lineOf kind) w (lineBytes w) (kept kind w .long) (length table / w) table
+    (omega (arith, div-add-mod (length table) w))
+
 -- whole rows
-pub rows-of : (w : ℕ) (table : List ℕ) → length table % w ≡ 0 → length table ≡ w * (length table / w)
+rows-of : (w : ℕ) (table : List ℕ) → length table % w ≡ 0 → length table ≡ w * (length table / w)
 rows-of w table h = omega (arith, div-add-mod (length table) w)
 
 module _ (kind w : ℕ) (table : List ℕ) (whole : length table % w ≡ 0) where
-  pub length-lines : length (linesOf kind w table) ≡ lineBytes w * (length table / w)
-  unfolding linesOf
-  length-lines =
-      length-written (lineOf kind) (wordsOf w) (isLine kind w) w (lineBytes w) (kept kind w) (length table / w) table
-      (rows-of w table whole)
-
   -- the lines of a table are counted, where at least as many are looked at
   counted : (most : ℕ) (rest : List ℕ) → Words table → Unlike kind rest → length table / w ≤ most
       → leading (isLine kind w) (lineBytes w) most (linesOf kind w table ++ rest) ≡ length table / w
@@ -83,7 +86,8 @@ module _ (kind w : ℕ) (table : List ℕ) (whole : length table % w ≡ 0) wher
   lines-written rest h u =
       let text = linesOf kind w table ++ rest in
       let n = length table / w in
-      let room : n * lineBytes w ≤ length text = omega (arith, length-append (linesOf kind w table) rest, length-lines) in
+      let room : n * lineBytes w ≤ length text =
+      omega (arith, length-append (linesOf kind w table) rest, length-lines kind w table) in
       counted (length text / lineBytes w) rest h u (le-div-iff-mul-le {k = lineBytes w} (omega arith) .1 room)
 
   -- read back
@@ -96,7 +100,7 @@ module _ (kind w : ℕ) (table : List ℕ) (whole : length table % w ≡ 0) wher
   -- and followed by what stands behind them
   pub behind-written : (rest : List ℕ) → behind w (length table / w) (linesOf kind w table ++ rest) ≡ rest
   unfolding behind
-  behind-written rest = drop-at (linesOf kind w table) rest (lineBytes w * (length table / w)) length-lines
+  behind-written rest = drop-at (linesOf kind w table) rest (lineBytes w * (length table / w)) (length-lines kind w table)
 
 -- ---- a table that is read
 
@@ -116,7 +120,7 @@ module _ (kind w : ℕ) (text : List ℕ) where
   words-table = read .words
 
   -- and its lines are those that were read
-  pub lines-again : 0 < w → linesOf kind w (tableOf w (lines kind w text) text) ≡ take (lineBytes w * lines kind w text) text
+  lines-again : 0 < w → linesOf kind w (tableOf w (lines kind w text) text) ≡ take (lineBytes w * lines kind w text) text
   unfolding linesOf tableOf
   lines-again p =
       let table = each (wordsOf w) (lineBytes w) (lines kind w text) text in
