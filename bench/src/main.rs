@@ -2,12 +2,13 @@
 //!
 //! `cargo run --release` prints the tables. With MACHINES STATES EVENTS SIDE BATCHES after `--` it
 //! runs one side (`ours`, `rust` or `check`) of one case, for a profiler. `-- sheets` times the sheets'
-//! writer and reader, `-- due` the due list. Built with another archive, `-- other` times it beside the
-//! present one.
+//! writer and reader, `-- due` the due list, `-- ended` the question whether all machines have ended.
+//! Built with another archive, `-- other` times it beside the present one.
 
 mod case;
 mod clock;
 mod due_list;
+mod ended;
 mod input;
 #[cfg(other)]
 mod other;
@@ -219,6 +220,9 @@ fn main() {
     }
     if args == ["due"] {
         return due_list::compare();
+    }
+    if args == ["ended"] {
+        return ended::compare();
     }
     if args == ["other"] {
         #[cfg(other)]

@@ -84,6 +84,7 @@ static void print_framework(void) {
     STRUCT(maybenot_framework);
     FIELD(maybenot_framework, runtime);
     FIELD(maybenot_framework, machines);
+    FIELD(maybenot_framework, ended);
     FIELD(maybenot_framework, current_time);
     FIELD(maybenot_framework, signal_pending);
     FIELD(maybenot_framework, max_padding_frac);

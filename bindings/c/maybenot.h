@@ -27,7 +27,7 @@ extern "C" {
  * It is raised whenever a struct below or the width of a row changes, and not where something is added. The archive has a
  * function with the version in its name, and whatever includes this header refers to it: with an archive of another version the
  * program does not link. Nor does one that calls a function which an older archive of its version lacks. */
-#define MAYBENOT_INTERFACE 1
+#define MAYBENOT_INTERFACE 2
 
 #define MAYBENOT_JOINED_(a, b) a##b
 #define MAYBENOT_JOINED(a, b) MAYBENOT_JOINED_(a, b)
@@ -277,7 +277,8 @@ static inline const char *maybenot_refusal_text(uint64_t refusal) {
     }
 }
 
-/* ---- The framework: kept by the sender, written by maybenot_batch alone. It may be copied and stored as it is. */
+/* ---- The framework: kept by the sender, written by maybenot_batch alone. It may be copied, and stored as it is for a program
+ * of the same version of the interface. */
 typedef struct maybenot_machine_runtime {
     uint64_t current_state; /* MAYBENOT_STATE_END: ended */
     uint64_t state_limit;
@@ -293,6 +294,7 @@ typedef struct maybenot_machine_runtime {
 typedef struct maybenot_framework {
     maybenot_machine_runtime runtime[MAYBENOT_MAX_MACHINES];
     uint64_t machines;
+    uint64_t ended; /* how many machines have ended; a batch refuses another number as 18 */
     uint64_t current_time;
     uint64_t signal_pending; /* 0 none, 1 all machines, 2 + m all but machine m */
     double max_padding_frac;
@@ -369,7 +371,8 @@ maybenot_reply maybenot_batch(
     const double *values, size_t values_len,
     uint64_t *out, size_t out_len);
 
-/* Whether every machine has ended; true with no machines. */
+/* Whether every machine has ended; true with no machines. It reads `ended` and `machines` alone, whatever framework is lent, and
+ * so costs the same for any number of machines: true exactly where the two are equal, a count above 16 read as 16. */
 bool maybenot_all_machines_ended(const maybenot_framework *framework);
 
 /* Writes the rows of a batch in the order in which they fall due, and says how many they are: the smallest timeout first, the

@@ -184,8 +184,9 @@ impl<T: Borrow<Tables>> Framework<T> {
         Ok((Framework::of(opened.framework, tables), used))
     }
 
-    /// Goes on with a framework that was stored. Refused where it does not fit the tables
-    /// ([`Refusal::FrameworkMisfit`]), or where nobody has validated these and they are bad.
+    /// Goes on with a framework that was stored. Refused where it does not fit the tables or its number
+    /// of ended machines is wrong ([`Refusal::FrameworkMisfit`]), or where nobody has validated the
+    /// tables and they are bad.
     ///
     /// The state alone is resumed. Draws that were in store are not part of it, nor are the sender's
     /// timers and its blocking. That a state fits does not say that the library wrote it: the budgets
@@ -239,7 +240,8 @@ impl<T: Borrow<Tables>> Framework<T> {
         self.tables.borrow().num_machines()
     }
 
-    /// True if all machines have reached the end state; true with no machines.
+    /// True if all machines have reached the end state; true with no machines. The framework keeps how
+    /// many have ended, so this costs the same for any number of machines.
     pub fn all_machines_ended(&self) -> bool {
         sys::all_machines_ended(&self.state)
     }

@@ -9,7 +9,7 @@ use std::mem::{offset_of, size_of};
 
 /// The version of the interface that this binding is written for. The archive's function of that name
 /// answers it, and an archive of another version does not link.
-pub const INTERFACE: u64 = 1;
+pub const INTERFACE: u64 = 2;
 /// At most so many machines.
 pub const MAX_MACHINES: usize = 16;
 /// Words of a row of the machine table.
@@ -33,7 +33,7 @@ pub const EVENT_WORDS: usize = 2;
 /// Words of a row of the output.
 pub const ACTION_WORDS: usize = 6;
 /// Words of the framework.
-pub const FRAMEWORK_WORDS: usize = 11 + 9 * MAX_MACHINES;
+pub const FRAMEWORK_WORDS: usize = 12 + 9 * MAX_MACHINES;
 
 /// One machine's state.
 #[repr(C)]
@@ -68,6 +68,8 @@ pub struct Framework {
     pub runtime: [MachineRuntime; MAX_MACHINES],
     /// The number of machines.
     pub machines: u64,
+    /// How many of them have ended. A batch refuses another number as 18.
+    pub ended: u64,
     /// The time of the last accepted call.
     pub current_time: u64,
     /// 0 none, 1 all machines, 2 + m all but machine m.
@@ -182,20 +184,21 @@ const _: () = {
     assert!(offset_of!(MachineRuntime, counter_a) == 56);
     assert!(offset_of!(MachineRuntime, counter_b) == 64);
 
-    assert!(size_of::<Framework>() == 16 * 72 + 88);
+    assert!(size_of::<Framework>() == 16 * 72 + 96);
     assert!(size_of::<Framework>() == 8 * FRAMEWORK_WORDS);
     assert!(offset_of!(Framework, runtime) == 0);
     assert!(offset_of!(Framework, machines) == 16 * 72);
-    assert!(offset_of!(Framework, current_time) == 16 * 72 + 8);
-    assert!(offset_of!(Framework, signal_pending) == 16 * 72 + 16);
-    assert!(offset_of!(Framework, max_padding_frac) == 16 * 72 + 24);
-    assert!(offset_of!(Framework, max_blocking_frac) == 16 * 72 + 32);
-    assert!(offset_of!(Framework, framework_start) == 16 * 72 + 40);
-    assert!(offset_of!(Framework, normal_sent_packets) == 16 * 72 + 48);
-    assert!(offset_of!(Framework, padding_sent_packets) == 16 * 72 + 56);
-    assert!(offset_of!(Framework, blocking_duration) == 16 * 72 + 64);
-    assert!(offset_of!(Framework, blocking_started) == 16 * 72 + 72);
-    assert!(offset_of!(Framework, blocking_active) == 16 * 72 + 80);
+    assert!(offset_of!(Framework, ended) == 16 * 72 + 8);
+    assert!(offset_of!(Framework, current_time) == 16 * 72 + 16);
+    assert!(offset_of!(Framework, signal_pending) == 16 * 72 + 24);
+    assert!(offset_of!(Framework, max_padding_frac) == 16 * 72 + 32);
+    assert!(offset_of!(Framework, max_blocking_frac) == 16 * 72 + 40);
+    assert!(offset_of!(Framework, framework_start) == 16 * 72 + 48);
+    assert!(offset_of!(Framework, normal_sent_packets) == 16 * 72 + 56);
+    assert!(offset_of!(Framework, padding_sent_packets) == 16 * 72 + 64);
+    assert!(offset_of!(Framework, blocking_duration) == 16 * 72 + 72);
+    assert!(offset_of!(Framework, blocking_started) == 16 * 72 + 80);
+    assert!(offset_of!(Framework, blocking_active) == 16 * 72 + 88);
 
     assert!(size_of::<Opened>() == 24 + size_of::<Framework>());
     assert!(offset_of!(Opened, refusal) == 0);
@@ -320,18 +323,18 @@ mod c {
             out_len: usize,
         ) -> Due;
 
-        pub fn maybenot_interface_1() -> u64;
+        pub fn maybenot_interface_2() -> u64;
     }
 }
 
 /// Kept in every program, so that an archive of another version does not link, whoever calls what.
 #[used]
-static LINKED: unsafe extern "C" fn() -> u64 = c::maybenot_interface_1;
+static LINKED: unsafe extern "C" fn() -> u64 = c::maybenot_interface_2;
 
 /// The version of the interface, as the archive answers it: [`INTERFACE`].
 pub fn interface() -> u64 {
     // SAFETY: the function reads nothing and answers a number.
-    unsafe { c::maybenot_interface_1() }
+    unsafe { c::maybenot_interface_2() }
 }
 
 /// Opens a framework with the machines of these tables.
@@ -396,7 +399,8 @@ pub fn batch(
     }
 }
 
-/// Whether every machine has ended; true with no machines.
+/// Whether every machine has ended; true with no machines. It reads the fields `ended` and `machines` of
+/// any framework and nothing else: true exactly where they are equal, a count above 16 read as 16.
 pub fn all_machines_ended(framework: &Framework) -> bool {
     // SAFETY: the function reads the framework alone, and every pattern of words is a value of it.
     unsafe { c::maybenot_all_machines_ended(framework) }

@@ -136,10 +136,10 @@ fn machines_end() {
     let ends = || free(vec![State::new([(Event::NormalSent, vec![Trans(STATE_END, 1.0)])])]);
     let tables = Tables::new(&[ends(), ends()]).unwrap();
     let (mut framework, _) = Framework::open_with(tables, 0.0, 0.0, 0, &[]).unwrap();
-    assert!(!framework.all_machines_ended());
+    assert!(framework.state().ended == 0 && !framework.all_machines_ended());
     let mut out = Vec::new();
     framework.batch(1, &[TriggerEvent::NormalSent], &[0.5, 0.5], &[], &mut out).unwrap();
-    assert!(framework.all_machines_ended());
+    assert!(framework.state().ended == 2 && framework.all_machines_ended());
 
     let none: [Machine; 0] = [];
     let (empty, _) = Framework::open_with(Tables::new(&none).unwrap(), 0.0, 0.0, 0, &[]).unwrap();
@@ -149,11 +149,24 @@ fn machines_end() {
 #[test]
 fn a_count_above_16_is_read_as_16() {
     let mut framework = sys::Framework::from_words([0; sys::FRAMEWORK_WORDS]);
-    framework.machines = u64::MAX;
+    for machines in [16, 17, 1 << 32, u64::MAX] {
+        framework.machines = machines;
+        for ended in [0, 15, 16, 17, 1 << 32, u64::MAX] {
+            framework.ended = ended;
+            assert_eq!(sys::all_machines_ended(&framework), ended == 16);
+        }
+    }
+}
+
+#[test]
+fn the_number_is_read_and_not_the_states() {
+    let mut framework = sys::Framework::from_words([0; sys::FRAMEWORK_WORDS]);
+    framework.machines = 3;
     framework.runtime.iter_mut().for_each(|machine| machine.current_state = STATE_END as u64);
-    assert!(sys::all_machines_ended(&framework));
-    framework.runtime[15].current_state = 0;
     assert!(!sys::all_machines_ended(&framework));
+    framework = sys::Framework { ended: 3, ..framework };
+    framework.runtime.iter_mut().for_each(|machine| machine.current_state = 0);
+    assert!(sys::all_machines_ended(&framework));
 }
 
 /// The header says each refusal in the same words.

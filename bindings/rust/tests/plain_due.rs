@@ -1,10 +1,13 @@
 //! Due lists by the archive and by plain Rust (`reference/due`), on generated rows and buffers: the same
 //! answer, and the same in every word that was lent or lies beside it.
 
+mod common;
+
+use common::Seen;
 use due::WORDS;
 use maybenot_link::sys;
 use random::Random;
-use std::collections::{BTreeMap, HashSet};
+use std::collections::HashSet;
 
 const CASES: u64 = 20_000;
 /// Words before and after each lent part.
@@ -173,79 +176,68 @@ fn list(rows: &[u64], room: usize, seed: u64) -> ((u64, u64), Lent) {
     (expected, ours)
 }
 
-/// What occurred, and how often.
-#[derive(Default)]
-struct Seen(BTreeMap<&'static str, usize>);
-
-impl Seen {
-    fn note(&mut self, what: &'static str, occurred: bool) {
-        *self.0.entry(what).or_default() += usize::from(occurred);
+/// What holds of the rows and the buffer, and which of it was answered.
+fn note_refusals(seen: &mut Seen, rows: &[u64], room: usize, refusal: u64) {
+    let bad = |row: &[u64]| !(1..=4).contains(&row[1]);
+    let all: Vec<_> = rows.chunks_exact(WORDS).map(bad).collect();
+    let (bad_kind, short) = (all.contains(&true), room < rows.len());
+    seen.note("3 alone", refusal == 3 && !bad_kind && !short);
+    seen.note("3 before 14", refusal == 3 && bad_kind && !short);
+    seen.note("3 before 20", refusal == 3 && !bad_kind && short);
+    seen.note("3 before both", refusal == 3 && bad_kind && short);
+    seen.note("14 alone", refusal == 14 && !short);
+    seen.note("14 before 20", refusal == 14 && short);
+    if let (14, [first, between @ .., last]) = (refusal, &all[..]) {
+        let places = [*first, between.contains(&true), *last];
+        seen.note("14 for the first row alone", places == [true, false, false]);
+        seen.note("14 for a row between alone", places == [false, true, false]);
+        seen.note("14 for the last row alone", places == [false, false, true]);
     }
+    seen.note("20 by a word", refusal == 20 && room + 1 == rows.len());
+    seen.note("20 by a row", refusal == 20 && room + WORDS == rows.len());
+    seen.note("20 with no buffer", refusal == 20 && room == 0);
+}
 
-    /// What holds of the rows and the buffer, and which of it was answered.
-    fn note_refusals(&mut self, rows: &[u64], room: usize, refusal: u64) {
-        let bad = |row: &[u64]| !(1..=4).contains(&row[1]);
-        let all: Vec<_> = rows.chunks_exact(WORDS).map(bad).collect();
-        let (bad_kind, short) = (all.contains(&true), room < rows.len());
-        self.note("3 alone", refusal == 3 && !bad_kind && !short);
-        self.note("3 before 14", refusal == 3 && bad_kind && !short);
-        self.note("3 before 20", refusal == 3 && !bad_kind && short);
-        self.note("3 before both", refusal == 3 && bad_kind && short);
-        self.note("14 alone", refusal == 14 && !short);
-        self.note("14 before 20", refusal == 14 && short);
-        if let (14, [first, between @ .., last]) = (refusal, &all[..]) {
-            let places = [*first, between.contains(&true), *last];
-            self.note("14 for the first row alone", places == [true, false, false]);
-            self.note("14 for a row between alone", places == [false, true, false]);
-            self.note("14 for the last row alone", places == [false, false, true]);
-        }
-        self.note("20 by a word", refusal == 20 && room + 1 == rows.len());
-        self.note("20 by a row", refusal == 20 && room + WORDS == rows.len());
-        self.note("20 with no buffer", refusal == 20 && room == 0);
-    }
+/// What holds of an accepted list in its order.
+fn note_list(seen: &mut Seen, rows: &[u64], room: usize, list: &[u64]) {
+    let count = rows.len() / WORDS;
+    let neighbours = || list.chunks(WORDS).zip(list.chunks(WORDS).skip(1));
+    let tie = |a: &[u64], b: &[u64]| (a[4], a[0]) == (b[4], b[0]);
+    let distinct: HashSet<_> = rows.chunks(WORDS).collect();
+    seen.note("none", count == 0);
+    seen.note("one", count == 1);
+    seen.note("more than 16", count > 16);
+    seen.note("more than 40", count > 40);
+    seen.note("more than 1000", count > 1000);
+    seen.note("words behind the list", room > rows.len());
+    seen.note("in order before", rows == list);
+    seen.note("not in order before", rows != list);
+    seen.note("equal timeouts", neighbours().any(|(a, b)| a[4] == b[4] && a[0] != b[0]));
+    seen.note("ties of unlike rows", neighbours().any(|(a, b)| a != b && tie(a, b)));
+    seen.note("the same row twice", distinct.len() < count);
+    seen.note("more than 16 ties", neighbours().filter(|(a, b)| tie(a, b)).count() > 16);
+    seen.note("all timeouts equal", count > 1 && neighbours().all(|(a, b)| a[4] == b[4]));
+    seen.note("machines above 15", list.chunks(WORDS).any(|row| row[0] > 15));
+    seen.note("the largest machine", list.chunks(WORDS).any(|row| row[0] == u64::MAX));
+    seen.note("the largest timeout", list.chunks(WORDS).any(|row| row[4] == u64::MAX));
+}
 
-    /// What holds of an accepted list in its order.
-    fn note_list(&mut self, rows: &[u64], room: usize, list: &[u64]) {
-        let count = rows.len() / WORDS;
-        let neighbours = || list.chunks(WORDS).zip(list.chunks(WORDS).skip(1));
-        let tie = |a: &[u64], b: &[u64]| (a[4], a[0]) == (b[4], b[0]);
-        let distinct: HashSet<_> = rows.chunks(WORDS).collect();
-        self.note("none", count == 0);
-        self.note("one", count == 1);
-        self.note("more than 16", count > 16);
-        self.note("more than 40", count > 40);
-        self.note("more than 1000", count > 1000);
-        self.note("words behind the list", room > rows.len());
-        self.note("in order before", rows == list);
-        self.note("not in order before", rows != list);
-        self.note("equal timeouts", neighbours().any(|(a, b)| a[4] == b[4] && a[0] != b[0]));
-        self.note("ties of unlike rows", neighbours().any(|(a, b)| a != b && tie(a, b)));
-        self.note("the same row twice", distinct.len() < count);
-        self.note("more than 16 ties", neighbours().filter(|(a, b)| tie(a, b)).count() > 16);
-        self.note("all timeouts equal", count > 1 && neighbours().all(|(a, b)| a[4] == b[4]));
-        self.note("machines above 15", list.chunks(WORDS).any(|row| row[0] > 15));
-        self.note("the largest machine", list.chunks(WORDS).any(|row| row[0] == u64::MAX));
-        self.note("the largest timeout", list.chunks(WORDS).any(|row| row[4] == u64::MAX));
+fn note_case(seen: &mut Seen, rows: &[u64], room: usize, refusal: u64, mut out: Lent) {
+    seen.note("accepted", refusal == 0);
+    seen.note("3", refusal == 3);
+    seen.note("14", refusal == 14);
+    seen.note("20", refusal == 20);
+    note_refusals(seen, rows, room, refusal);
+    if refusal == 0 {
+        note_list(seen, rows, room, &out.part()[..rows.len()]);
     }
+}
 
-    fn note_case(&mut self, rows: &[u64], room: usize, refusal: u64, mut out: Lent) {
-        self.note("accepted", refusal == 0);
-        self.note("3", refusal == 3);
-        self.note("14", refusal == 14);
-        self.note("20", refusal == 20);
-        self.note_refusals(rows, room, refusal);
-        if refusal == 0 {
-            self.note_list(rows, room, &out.part()[..rows.len()]);
-        }
-    }
-
-    fn often(&self) {
-        let all: usize = ["accepted", "3", "14", "20"].iter().map(|answer| self.0[answer]).sum();
-        assert_eq!(all as u64, CASES, "no other refusals: {:?}", self.0);
-        for (what, times) in &self.0 {
-            assert!(*times > 20, "{what}: {:?}", self.0);
-        }
-    }
+/// Each answer and each case occurred, and no other refusal.
+fn often(seen: &Seen) {
+    let all: usize = ["accepted", "3", "14", "20"].iter().map(|answer| seen.times(answer)).sum();
+    assert_eq!(all as u64, CASES, "no other refusals: {seen:?}");
+    seen.often(20);
 }
 
 #[test]
@@ -254,7 +246,7 @@ fn due_lists_are_the_plain_ones() {
     for seed in 0..CASES {
         let (rows, room) = case(&mut Random::new(seed));
         let ((refusal, _), out) = list(&rows, room, seed);
-        seen.note_case(&rows, room, refusal, out);
+        note_case(&mut seen, &rows, room, refusal, out);
     }
-    seen.often();
+    often(&seen);
 }

@@ -3,34 +3,83 @@
 
 mod common;
 
-use common::{any_dist, events, machines, Random};
-use maybenot_link::constants::STATE_END;
-use maybenot_link::sys::{self, Words, FRAMEWORK_WORDS};
+use common::{any_dist, events, machines, num_states, plain, word, Random};
+use kept::STATE_END;
+use maybenot_link::dist::{Dist, DistType};
+use maybenot_link::sys::{self, Framework, Reply, Words, FRAMEWORK_WORDS};
 use maybenot_link::{Tables, TriggerAction};
 
 const MARK: u64 = 0x5555_5555_5555_5555;
+/// Words of a lent output, and of what lies behind it.
+type Out = [u64; 100];
 
-/// A word of any size.
-fn word(random: &mut Random) -> u64 {
-    match random.below(6) {
-        0 => random.word(),
-        1 => random.below(20) as u64,
-        2 => STATE_END as u64 - random.below(3) as u64,
-        3 => u64::MAX - random.below(3) as u64,
-        4 => random.unit().to_bits(),
-        _ => random.word() >> random.below(64),
+/// All words of a framework, or a few, become others.
+fn overwrite(random: &mut Random, framework: &mut Framework, round: usize) {
+    let mut words = framework.to_words();
+    if round % 4 == 0 {
+        words.iter_mut().for_each(|at| *at = word(random));
+    } else {
+        for _ in 0..round {
+            words[random.below(FRAMEWORK_WORDS)] = word(random);
+        }
     }
+    *framework = Framework::from_words(words);
 }
 
-/// Document 01's test behind 18.
-fn fits(framework: &sys::Framework, tables: Words<'_>) -> bool {
-    let count = tables.machines.len() / 6;
-    framework.machines == count as u64
-        && (0..count).all(|k| {
-            let state = framework.runtime[k].current_state;
-            state == STATE_END as u64 || state < tables.machines[6 * k + 5]
-        })
-        && (framework.signal_pending < 2 || framework.signal_pending - 2 < count as u64)
+/// The words that are judged become such as fit; at times the signal or the number of ended machines
+/// does not.
+fn mend(random: &mut Random, framework: &mut Framework, num_states: &[u64]) {
+    let count = num_states.len();
+    framework.machines = count as u64;
+    framework.signal_pending = random.below(count + 3) as u64;
+    for (machine, states) in framework.runtime.iter_mut().zip(num_states) {
+        let state = random.below(*states as usize) as u64;
+        machine.current_state = if random.one_in(4) { STATE_END } else { state };
+    }
+    framework.ended = match random.below(8) {
+        0 => word(random),
+        1 => random.below(count + 1) as u64,
+        _ => plain(framework).in_state_end(),
+    };
+}
+
+/// What an accepted batch left: rows of known machines, and nothing behind them.
+fn ran(reply: Reply, out: &Out, count: usize) {
+    assert!(reply.actions <= count as u64);
+    let rows = 6 * reply.actions as usize;
+    for row in out[..rows].chunks(6) {
+        let action = TriggerAction::from_row(row.try_into().unwrap()).unwrap();
+        assert!(action.machine().into_raw() < count);
+    }
+    assert!(out[rows..].iter().all(|at| *at == MARK));
+}
+
+/// A batch of some events, twice: refused as 18 and nothing changed, or run. Answers whether it ran.
+fn lend(random: &mut Random, before: &Framework, tables: Words<'_>, draws: &[f64]) -> bool {
+    let num_states = num_states(tables.machines);
+    let count = num_states.len();
+    let happened = events(random, 3, count);
+    let lent: Vec<u64> = happened.iter().flat_map(|event| event.to_words()).collect();
+    let chances: Vec<f32> = (0..200).map(|_| random.unit() as f32 * 0.999).collect();
+    let call = || {
+        let (mut after, mut out) = (*before, [MARK; 100]);
+        let (time, part) = (before.current_time.wrapping_add(7), &mut out[..6 * count + 2]);
+        let reply = sys::batch(&mut after, tables, time, &lent, &chances, draws, part);
+        (reply, after.to_words(), out)
+    };
+    let (reply, after, out) = call();
+    assert_eq!((reply, after, out), call(), "the same words, the same answer");
+    assert_eq!(sys::all_machines_ended(before), plain(before).all_machines_ended());
+    let fits = plain(before).fits(&num_states);
+    if fits {
+        assert_eq!(reply.refusal, 0);
+        assert!(plain(&Framework::from_words(after)).fits(&num_states));
+        ran(reply, &out, count);
+    } else {
+        assert_eq!(reply, Reply { refusal: 18, actions: 0, chance_used: 0, value_used: 0 });
+        assert_eq!((after, out), (before.to_words(), [MARK; 100]));
+    }
+    fits
 }
 
 #[test]
@@ -39,72 +88,21 @@ fn an_overwritten_framework_is_refused_as_18_or_runs() {
     let (mut refused, mut ran) = (0, 0);
     for _ in 0..500 {
         let (count, states) = (random.below(5), 1 + random.below(4));
-        let mut outside = |random: &mut Random| {
-            let mut dist = any_dist(random);
-            dist.dist = maybenot_link::dist::DistType::Poisson { lambda: 1.0 };
-            dist
-        };
-        let built = machines(&mut random, count, states, &mut outside);
-        let tables = Tables::new(&built).unwrap();
+        let mut outside =
+            |random: &mut Random| Dist { dist: DistType::Outside, ..any_dist(random) };
+        let tables = Tables::new(&machines(&mut random, count, states, &mut outside)).unwrap();
         let draws: Vec<f64> = (0..1000).map(|_| f64::from_bits(word(&mut random))).collect();
-        let chances: Vec<f32> = (0..200).map(|_| random.unit() as f32 * 0.999).collect();
         let opened = sys::opening(0.5, 0.5, 0, tables.words(), &draws);
         assert_eq!(opened.refusal, 0);
         for round in 0..20 {
-            // all words, or a few of those of a framework that was good
-            let mut words = opened.framework.to_words();
-            if round % 4 == 0 {
-                words.iter_mut().for_each(|at| *at = word(&mut random));
-            } else {
-                for _ in 0..round {
-                    words[random.below(FRAMEWORK_WORDS)] = word(&mut random);
-                }
-            }
+            let mut framework = opened.framework;
+            overwrite(&mut random, &mut framework, round);
             if round % 2 == 1 {
-                let mut framework = sys::Framework::from_words(words);
-                framework.machines = count as u64;
-                framework.signal_pending = random.below(count + 3) as u64;
-                for machine in &mut framework.runtime[..count] {
-                    machine.current_state = random.below(states) as u64;
-                }
-                words = framework.to_words();
+                mend(&mut random, &mut framework, &num_states(tables.words().machines));
             }
-            let happened = events(&mut random, 3, count);
-            let lent: Vec<u64> = happened.iter().flat_map(|event| event.to_words()).collect();
-            let call = || {
-                let (mut framework, mut out) = (sys::Framework::from_words(words), [MARK; 100]);
-                let (time, out_len) = (framework.current_time.wrapping_add(7), 6 * count + 2);
-                let reply = sys::batch(
-                    &mut framework,
-                    tables.words(),
-                    time,
-                    &lent,
-                    &chances,
-                    &draws,
-                    &mut out[..out_len],
-                );
-                (reply, framework.to_words(), out)
-            };
-            let (reply, after, out) = call();
-            assert_eq!((reply, after, out), call(), "the same words, the same answer");
-            sys::all_machines_ended(&sys::Framework::from_words(words));
-            if fits(&sys::Framework::from_words(words), tables.words()) {
-                assert_eq!(reply.refusal, 0);
-                assert!(fits(&sys::Framework::from_words(after), tables.words()));
-                let rows = 6 * reply.actions as usize;
-                assert!(reply.actions <= count as u64);
-                for row in out[..rows].chunks(6) {
-                    let action = TriggerAction::from_row(row.try_into().unwrap()).unwrap();
-                    assert!(action.machine().into_raw() < count);
-                }
-                assert!(out[rows..].iter().all(|at| *at == MARK));
-                ran += 1;
-            } else {
-                assert_eq!(reply.refusal, 18);
-                assert_eq!(after, words);
-                assert!(out.iter().all(|at| *at == MARK));
-                assert_eq!((reply.actions, reply.chance_used, reply.value_used), (0, 0, 0));
-                refused += 1;
+            match lend(&mut random, &framework, tables.words(), &draws) {
+                true => ran += 1,
+                false => refused += 1,
             }
         }
     }

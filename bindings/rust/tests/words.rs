@@ -4,6 +4,7 @@
 mod common;
 
 use common::{any_dist, events, free, machines, pads, Random, Source, Words};
+use kept::STATE_END as END;
 use maybenot_link::action::Action;
 use maybenot_link::dist::{Dist, DistType};
 use maybenot_link::event::Event;
@@ -199,13 +200,23 @@ fn a_framework_that_does_not_fit_is_refused() {
     assert_eq!(resumed(|state| state.machines = 1), misfit);
     assert_eq!(resumed(|state| state.machines = 3), misfit);
     assert_eq!(resumed(|state| state.runtime[1].current_state = 1), misfit);
-    assert_eq!(resumed(|state| state.runtime[1].current_state = u32::MAX.into()), Ok(()));
     assert_eq!(resumed(|state| state.signal_pending = 4), misfit);
     assert_eq!(resumed(|state| state.signal_pending = 3), Ok(()));
+
+    // the number of ended machines, without them and with them
+    assert_eq!(resumed(|state| state.ended = 1), misfit);
+    assert_eq!(resumed(|state| state.ended = u64::MAX), misfit);
+    assert_eq!(resumed(|state| state.runtime[1].current_state = END), misfit);
+    let one_ended =
+        |state: &mut sys::Framework| (state.runtime[1].current_state, state.ended) = (END, 1);
+    assert_eq!(resumed(one_ended), Ok(()));
+    assert_eq!(resumed(|state| state.runtime[2].current_state = END), Ok(()));
 
     let none = Tables::new(&[]).unwrap();
     let empty = sys::Framework::from_words([0; FRAMEWORK_WORDS]);
     assert!(Framework::resume(&none, empty).is_ok());
+    let counted = sys::Framework { ended: 1, ..empty };
+    assert_eq!(Framework::resume(&none, counted).map(|_| ()), misfit);
     assert_eq!(Framework::resume(&none, *framework.state()).map(|_| ()), misfit);
 
     let bad = Machine { max_padding_frac: 2.0, ..pads() };

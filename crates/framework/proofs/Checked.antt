@@ -1,18 +1,19 @@
 -- Refusals in order, and what holds where there is none.
 use Prim.Native.Nat.{ℕ, _+_, _*_, _/_, _%_, _≤_}
-use mathlib.Core.Path.{_≡_, refl}
+use mathlib.Core.Path.{_≡_, refl, sym, subst}
 use mathlib.Core.List.{List}
 use mathlib.Core.Bool.{Bool, true, false, false≢true, cond, _&&_}
 use mathlib.Core.Logic.{⊎-elim}
 use native.Mathlib.Omega.{arith}
-use lib.Dec.{eqb, ltb}
+use lib.Dec.{T as Holds, eqb, ltb}
 use lib.ListN.{length}
 use borrow.Author.Tests.{eq-eqb, ne-eqb, eqb-true, eqb-false, ltb-false}
 use Rattle.tables.specs.First.{orElse}
 use Rattle.tables.specs.Machine.{tablesRefusal}
 use Rattle.tables.specs.Valid.Laws.{zero-valid}
 use Rattle.steps.specs.Events.{Tables, numMachines}
-use Rattle.steps.specs.Framework.{rowsIn, statesFit, fitsTables, kindsFit, eventsFit, batchRefusal}
+use Rattle.steps.specs.Framework.{rowsIn, fitsTables, kindsFit, eventsFit, batchRefusal}
+use Rattle.steps.specs.Fits.{fits-says}
 use Rattle.steps.specs.declared.Framework.{Framework}
 use Rattle.events.proofs.All.{bool-cases}
 
@@ -50,13 +51,6 @@ pub few-machines : (machines states transitions : List ℕ) →
     tablesRefusal machines states transitions ≡ 0 → rowsIn machines ≤ 16
 few-machines machines states transitions e = zero-valid machines states transitions e .whole .most
 
-machines-fit : (T : Tables) (fw : Framework) → fitsTables T fw ≡ true → fw .machines ≡ rowsIn (T .machines)
-unfolding fitsTables
-machines-fit T fw e =
-    let n = rowsIn (T .machines) in
-    let first = both (eqb (fw .machines) n && statesFit T fw n) (ltb (fw .«signal_pending») (2 + n)) e .0 in
-    eqb-true _ _ (both (eqb (fw .machines) n) (statesFit T fw n) first .0)
-
 kinds-fit : (es : List ℕ) → eventsFit es ≡ true → kindsFit es (length es / 2) ≡ true
 unfolding eventsFit
 kinds-fit es e = both (eqb (length es % 2) 0) (kindsFit es (length es / 2)) e .1
@@ -71,5 +65,5 @@ batch-passes fw T es out e =
     let fits = passes (fitsTables T fw) (cond (eventsFit es) room 19) 18 (λ z. omega (arith, z)) (none-then _ _ e) in
     let events = passes (eventsFit es) room 19 (λ z. omega (arith, z)) (fits .1) in
     let long = ltb-false (length out) (6 * rowsIn (T .machines)) (passes-not short 20 (λ z. omega (arith, z)) (events .1)) in
-    let count : fw .machines ≡ rowsIn (T .machines) = machines-fit T fw (fits .0) in
+    let count : fw .machines ≡ rowsIn (T .machines) = fits-says T fw (subst Holds (sym (fits .0)) tt) .machines in
     (kinds-fit es (events .0), omega (arith, long, count))

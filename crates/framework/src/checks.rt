@@ -7,13 +7,13 @@ use machine::event::TIMER_END_KIND;
 use machine::state::word;
 use steps::Framework;
 ghost use mathlib.Core.Path.{_≡_};
-ghost use mathlib.Core.Bool.{_||_};
+ghost use mathlib.Core.Bool.{cond, _||_};
 ghost use mathlib.Core.List.{List};
 ghost use Prim.Native.Nat.{ℕ, _*_, _/_, _≤_};
 ghost use lib.Dec.{eqb, ltb};
 ghost use lib.ListN.{length};
 ghost use Rattle.machine.specs.Constants.{stateEnd};
-ghost use Rattle.steps.specs.Framework.{rowsIn, statesFit, fitsTables, kindsFit, eventsFit, endedTo};
+ghost use Rattle.steps.specs.Framework.{rowsIn, statesFit, endedIn, fitsTables, kindsFit, eventsFit};
 ghost use Rattle.events.specs.Run.{tables};
 
 // Whether a current state is ended, or one of the machine's.
@@ -47,8 +47,33 @@ fn states_fit(fw: Framework, machines: &[u64], count: usize) -> bool
     true
 }
 
-// 18: the machine count, the current states, and a pending signal that leaves out an unknown
-// machine.
+// 1 for a machine that has ended.
+fn one_if_ended(current_state: u64) -> u64
+    ensures { λ r. ⌜ r ≡ cond (eqb «current_state» stateEnd) 1 0 ⌝ }
+{
+    if current_state == STATE_END {
+        return 1;
+    }
+    0
+}
+
+// How many of the first `count` machines have ended.
+pub fn ended_in(fw: Framework, count: usize) -> u64
+    requires { ⌜ count ≤ 16 ⌝ }
+    ensures { λ r. ⌜ r ≡ endedIn (fw .runtime) count ⌝ }
+{
+    let mut ended = 0;
+    let mut m = 0;
+    while m < count {
+        let r = fw.runtime[m];
+        ended = ended + one_if_ended(r.current_state);
+        m = m + 1;
+    }
+    ended
+}
+
+// 18: the machine count, the current states, a pending signal that leaves out an unknown machine,
+// and the ended number.
 pub fn fits_tables(fw: Framework, machines: &[u64]) -> bool
     requires { ⌜ rowsIn (now machines) ≤ 16 ⌝ }
     ensures { λ r. ⌜ ((states transitions : List ℕ) →
@@ -57,7 +82,9 @@ pub fn fits_tables(fw: Framework, machines: &[u64]) -> bool
     let count = machines.len() / MACHINE_WORDS;
     if fw.machines == count as u64 {
         if states_fit(fw, machines, count) {
-            return fw.signal_pending < 2 + (count as u64);
+            if fw.signal_pending < 2 + (count as u64) {
+                return fw.ended == ended_in(fw, count);
+            }
         }
     }
     false
@@ -77,22 +104,6 @@ pub fn events_fit(events: &[u64]) -> bool
             return false;
         }
         i = i + 1;
-    }
-    true
-}
-
-// Whether all of the first `count` machines have ended.
-pub fn ended_to(fw: Framework, count: usize) -> bool
-    requires { ⌜ count ≤ 16 ⌝ }
-    ensures { λ r. ⌜ r ≡ endedTo fw count ⌝ }
-{
-    let mut m = 0;
-    while m < count {
-        let r = fw.runtime[m];
-        if r.current_state != STATE_END {
-            return false;
-        }
-        m = m + 1;
     }
     true
 }

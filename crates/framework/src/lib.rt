@@ -154,7 +154,8 @@ fn refused(fw: Framework, refusal: u64) -> Answer
     }
 }
 
-// An accepted batch: the rows are written, and a signal that is still pending waits for the next.
+// An accepted batch: the rows are written, the ended machines counted, and a signal that is still
+// pending waits for the next.
 fn accepted(ran: Ran, out: &mut [u64]) -> Answer
     requires { ⌜ rowWords * numMachines (ran .framework) ≤ length (now out) ⌝ }
     ensures { λ r. ⌜ (
@@ -164,7 +165,10 @@ fn accepted(ran: Ran, out: &mut [u64]) -> Answer
     let mut f = ran.framework;
     let actions = ran.actions;
     let s = ran.shared;
-    let rows = rows::put_rows(actions, numbers::smaller(f.machines, 16) as usize, out);
+    let count = numbers::smaller(f.machines, 16) as usize;
+    let rows = rows::put_rows(actions, count, out);
+    let ended = checks::ended_in(f, count);
+    f.ended = ended;
     f.signal_pending = s.signal_pending;
     Answer {
         refusal: 0,
@@ -214,9 +218,9 @@ pub fn batch(
     }
 }
 
-// Whether all machines have ended; true with no machines.
+// Whether all machines have ended: the ended number is the machine count, one above 16 read as 16.
 pub fn all_machines_ended(fw: Framework) -> bool
     ensures { λ r. ⌜ r ≡ Spec.allMachinesEnded fw ⌝ }
 {
-    checks::ended_to(fw, numbers::smaller(fw.machines, 16) as usize)
+    fw.ended == numbers::smaller(fw.machines, 16)
 }

@@ -73,6 +73,7 @@ fn new_framework(
     };
     Framework {
         machines: machines,
+        ended: 0,
         current_time: time,
         signal_pending: 0,
         fixed: fixed,

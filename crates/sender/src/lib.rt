@@ -27,10 +27,10 @@ pub struct Reply {
 // The version of the interface, which stands in the name too: the header and the bindings refer to it, so one of another
 // version does not link. It is raised whenever a struct that crosses or the width of a row changes.
 #[no_mangle]
-pub extern "C" fn maybenot_interface_1() -> u64
-    ensures { λ r. ⌜ r ≡ 1 ⌝ }
+pub extern "C" fn maybenot_interface_2() -> u64
+    ensures { λ r. ⌜ r ≡ 2 ⌝ }
 {
-    1
+    2
 }
 
 // Opens a framework with the machines of the lent tables.

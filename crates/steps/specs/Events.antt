@@ -77,6 +77,7 @@ runtimeAt fw i = getD (fw .runtime) i noRuntime
 abbrev pub withRuntime : Framework → List MachineRuntime → Framework
 withRuntime fw runtime = record {
   machines = fw .machines;
+  ended = fw .ended;
   «current_time» = fw .«current_time»;
   «signal_pending» = fw .«signal_pending»;
   fixed = fw .fixed;
@@ -152,6 +153,7 @@ countedBy kind blocked r = withCounts r (countsAfter kind blocked (r .counts))
 abbrev pub withTotals : Framework → Totals → Framework
 withTotals fw totals = record {
   machines = fw .machines;
+  ended = fw .ended;
   «current_time» = fw .«current_time»;
   «signal_pending» = fw .«signal_pending»;
   fixed = fw .fixed;

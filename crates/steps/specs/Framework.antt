@@ -61,6 +61,7 @@ noTotals time = record {
 abbrev pub newFramework : ℕ → Float → Float → ℕ → Framework
 newFramework machines padding blocking time = record {
   machines = machines;
+  ended = 0;
   «current_time» = time;
   «signal_pending» = 0;
   fixed = fixed padding blocking time;
@@ -138,12 +139,21 @@ statesFit T fw (suc n) =
     statesFit T fw n
     && (eqb (runtimeAt fw n .«current_state») stateEnd || ltb (runtimeAt fw n .«current_state») (machineWord (T .machines) n numStates))
 
--- 18: the machine count, the states, and a pending signal that leaves out an unknown machine
+-- how many of the first n machines have ended
+abbrev pub hasEnded : MachineRuntime → Bool
+hasEnded r = eqb (r .«current_state») stateEnd
+
+unfoldable pub endedIn : List MachineRuntime → ℕ → ℕ
+endedIn rs zero = 0
+endedIn rs (suc n) = endedIn rs n + cond (hasEnded (getD rs n noRuntime)) 1 0
+
+-- 18: the machine count, the states, a pending signal that leaves out an unknown machine, and the ended number
 unfoldable pub fitsTables : Tables → Framework → Bool
 fitsTables T fw =
     eqb (fw .machines) (rowsIn (T .machines))
     && statesFit T fw (rowsIn (T .machines))
     && ltb (fw .«signal_pending») (2 + rowsIn (T .machines))
+    && eqb (fw .ended) (endedIn (fw .runtime) (rowsIn (T .machines)))
 
 -- 19: a kind above 9, of the first n events
 unfoldable pub kindsFit : List ℕ → ℕ → Bool
@@ -167,6 +177,7 @@ batchRefusal fw T es out =
 abbrev pub withTime : Framework → ℕ → Framework
 withTime fw time = record {
   machines = fw .machines;
+  ended = fw .ended;
   «current_time» = time;
   «signal_pending» = fw .«signal_pending»;
   fixed = fw .fixed;
@@ -174,9 +185,11 @@ withTime fw time = record {
   runtime = fw .runtime;
 }
 
-abbrev pub withPending : Framework → ℕ → Framework
-withPending fw pending = record {
+-- it ends: the ended machines are counted, and a signal that is still pending waits for the next call
+abbrev pub ending : Framework → ℕ → Framework
+ending fw pending = record {
   machines = fw .machines;
+  ended = endedIn (fw .runtime) (numMachines fw);
   «current_time» = fw .«current_time»;
   «signal_pending» = pending;
   fixed = fw .fixed;
@@ -225,7 +238,7 @@ accepted x out = record {
     actions = length (returnedBy x) / rowWords;
     «chance_used» = x .shared .place .«chance_at»;
     «value_used» = x .shared .place .«value_at»;
-    framework = withPending (x .framework) (x .shared .«signal_pending»);
+    framework = ending (x .framework) (x .shared .«signal_pending»);
   };
   out = written (returnedBy x) out;
 }
@@ -239,10 +252,6 @@ batch fw T time es D out =
     let n = batchRefusal fw T es out in
     cond (eqb n 0) (concluded fw out (triggerEvents T D time es fw)) (refused fw out n)
 
--- ---- all_machines_ended: true with no machines
-unfoldable pub endedTo : Framework → ℕ → Bool
-endedTo fw zero = true
-endedTo fw (suc n) = endedTo fw n && eqb (runtimeAt fw n .«current_state») stateEnd
-
+-- ---- all_machines_ended: the ended number is the machine count, one above 16 read as 16
 unfoldable pub allMachinesEnded : Framework → Bool
-allMachinesEnded fw = endedTo fw (numMachines fw)
+allMachinesEnded fw = eqb (fw .ended) (numMachines fw)

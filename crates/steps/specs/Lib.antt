@@ -1,4 +1,4 @@
--- The steps of framework.rs, from the inside out; the laws of what they keep; what a batch writes and refuses; the padding budgets.
+-- The steps of framework.rs, from the inside out; the laws of what they keep; what a batch writes and refuses; the padding budgets; the ended number.
 pub mod Limits
 pub mod Transition
 pub mod Events
@@ -9,9 +9,11 @@ pub mod Walk
 pub mod Machines
 pub mod Rows
 pub mod Targets
-pub mod Printable
 pub mod Refusals
+pub mod Fits
+pub mod Printable
 pub mod Budget
+pub mod Ended
 pub mod Example
 pub mod Cases
 pub mod Worked

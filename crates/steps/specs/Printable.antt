@@ -27,6 +27,7 @@ use Rattle.steps.specs.Runs.{by-test, Ok, ok-any, none-of, batch-ok}
 use Rattle.steps.specs.Draws.{by-any, Gives}
 use Rattle.steps.specs.Walk.{Closed, rowOf}
 use Rattle.steps.specs.Machines.{Family, member, InRun, batch-kept}
+use Rattle.steps.specs.Fits.{fits-says, insideIn, run-inside, checked}
 use Rattle.steps.specs.Rows.{rowWords, RowOf, rows-most, rows-are}
 use Rattle.steps.specs.Targets.{Inside, in-state, Passed, statesIn, valid-state, goes-inside, fit-states}
 use Rattle.steps.specs.declared.MachineRuntime.{MachineRuntime}
@@ -78,59 +79,16 @@ module _ (row : List ℕ) (known : KnownAction row) (some : actionOf row ≡ 0 �
     duration = g .duration;
   }
 
--- ---- a run over valid tables: each machine is in its states, and its pending action is small
-abbrev smallIn : Tables → Family
-smallIn tables = record {
-  Refusal = λ n. Unit;
-  Machine = λ i. Inside (statesIn tables i);
-  Action = λ i. Small;
-  Signal = λ pending. Unit;
-}
-
-module _ (tables : Tables) (D : Source Place) (valid : Passed tables) where
-  closed : (fw : Framework) (i : ℕ) → i < rowsIn (tables .machines) → Closed (envOf tables D fw i) (member (smallIn tables) i)
-  closed fw i h = record {
-    refuses = by-any D;
-    enters = λ r next limit v c. inr (goes-inside tables valid i h D fw r next v c);
-    ends = λ r v l. inl refl;
-    falls = λ r v. v;
-    counters = λ r c v. v;
-    schedules = λ r a v l below g.
-        row-small (rowOf (envOf tables D fw i) r)
-        (valid-state tables valid i h (r .«current_state») (in-state r v l) .codes .action)
-        (has-action (envOf tables D fw i .context) r (rowOf (envOf tables D fw i) r) below) a g;
-    clears = none-small;
-    raises = λ pending v. v;
-  }
-
-  few : rowsIn (tables .machines) ≤ machineMax
-  few = zero-valid (tables .machines) (tables .states) (tables .transitions) valid .whole .most
-
-  run-small : (time : ℕ) (es : List ℕ) (fw : Framework) → T (fitsTables tables fw)
-      → Ok (λ n. Unit) (InRun (smallIn tables) (rowsIn (tables .machines))) (triggerEvents tables D time es fw)
-  unfolding fitsTables
-  run-small time es fw t =
-      let a = eqb (fw .machines) (rowsIn (tables .machines)) in
-      let b = statesFit tables fw (rowsIn (tables .machines)) in
-      let u = and-l (a && b) _ t in
-      batch-kept (smallIn tables) (rowsIn (tables .machines)) tables D closed (λ i r c v. v) tt time es fw
-      (num (fw .machines) (rowsIn (tables .machines)) (eqb→eq (fw .machines) (rowsIn (tables .machines)) (and-l a b u)) few)
-      (fit-states tables fw (rowsIn (tables .machines)) (and-r a b u)) tt
-    where
-      num : (m n : ℕ) → m ≡ n → n ≤ machineMax → min m machineMax ≡ n
-      num m n e l = omega arith
-
--- the checks of a batch that runs
-checked : (fw : Framework) (tables : Tables) (es out : List ℕ) → batchRefusal fw tables es out ≡ 0
-    → Passed tables × T (fitsTables tables fw)
-unfolding batchRefusal
-checked fw tables es out e =
-    let p = none-of (tablesRefusal (tables .machines) (tables .states) (tables .transitions)) _ e in
-    (p .0, by (fitsTables tables fw) _ (p .1))
-  where
-    by : (a : Bool) (n : ℕ) → cond {A = ℕ} a n 18 ≡ 0 → T a
-    by true n h = tt
-    by false n h = absurd (omega arith)
+-- ---- a run over valid tables: the pending actions are small
+run-small : (tables : Tables) (D : Source Place) → Passed tables → (time : ℕ) (es : List ℕ) (fw : Framework) → T (fitsTables tables fw)
+    → Ok (λ n. Unit) (InRun (insideIn Small tables) (rowsIn (tables .machines))) (triggerEvents tables D time es fw)
+run-small tables D valid time es fw t =
+    run-inside Small tables D valid none-small
+    (λ fw' i h r a v l below g.
+    row-small (rowOf (envOf tables D fw' i) r)
+    (valid-state tables valid i h (r .«current_state») (in-state r v l) .codes .action)
+    (has-action (envOf tables D fw' i .context) r (rowOf (envOf tables D fw' i) r) below) a g)
+    time es fw (fits-says tables fw t)
 
 -- ---- a row of six words, as a line of the printed run has it
 pub record RowBounds (row : List ℕ) : Type 0 where
@@ -176,7 +134,7 @@ most m = omega arith
 pub rows-bounded : (fw : Framework) (tables : Tables) (time : ℕ) (es : List ℕ) (D : Source Place) (out : List ℕ) (j : ℕ)
     → j < batch fw tables time es D out .answer .actions → RowBounds (drop (6 * j) (batch fw tables time es D out .out))
 rows-bounded fw tables time es D out j =
-    batch-ok (λ n. Unit) (InRun (smallIn tables) (rowsIn (tables .machines)))
+    batch-ok (λ n. Unit) (InRun (insideIn Small tables) (rowsIn (tables .machines)))
     (λ b. j < b .answer .actions → RowBounds (drop (6 * j) (b .out))) fw tables time es D out
     (λ e. let c = checked fw tables es out e in run-small tables D (c .0) time es fw (c .1))
     (λ e h. absurd (none h)) (λ e n r h. absurd (none h))

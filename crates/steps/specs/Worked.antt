@@ -22,7 +22,7 @@ use Rattle.tables.specs.Framework.{isFraction, fractionsRefusal}
 use Rattle.steps.specs.Limits.{belowFraction, belowLimitPadding, belowActionLimits}
 use Rattle.steps.specs.Transition.{enter, scheduleAction, updateOne, tallyA, tallyB, updateCounters, updateCounter, finish, transitionBy}
 use Rattle.steps.specs.Events.{Tables, each, noRuntime, countsAfter, blockedFor, totalsAfter, turn, machineTurn, processEvent, signals}
-use Rattle.steps.specs.Framework.{startLimit, openMachine, opening, statesFit, fitsTables, kindsFit, eventsFit, batchRefusal, triggerEvents, actionRows, Batch, batch}
+use Rattle.steps.specs.Framework.{startLimit, openMachine, opening, statesFit, endedIn, fitsTables, kindsFit, eventsFit, batchRefusal, triggerEvents, actionRows, Batch, batch}
 use Rattle.steps.specs.Example.{stateWith, pairFirst, pairCount, quarter32, one32, ten64, f32}
 use Rattle.steps.specs.declared.Framework.{Framework}
 use Rattle.steps.specs.declared.Opened.{Opened}
@@ -41,6 +41,7 @@ tables = record {
 abbrev after : (time normal : ℕ) → Framework
 after time normal = record {
   machines = 1;
+  ended = 0;
   «current_time» = time;
   «signal_pending» = 0;
   fixed = record { «max_padding_frac» = zeroF; «max_blocking_frac» = zeroF; «framework_start» = 0 };
@@ -84,7 +85,7 @@ opens = refl
 
 pub runs : batch (after 0 0) tables 5 (normalSent ∷ 0 ∷ []) (tapes (f32 quarter32 ∷ []) []) (replicate 7 9) ≡ answered
 unfolding
-    validUniform batch batchRefusal fitsTables statesFit eventsFit kindsFit tablesRefusal orElse
+    validUniform batch batchRefusal fitsTables statesFit endedIn eventsFit kindsFit tablesRefusal orElse
     firstRefusal wholeTables machineRefusal beyondFraction statesRefusal eachState stateRefusal
     eventsRefusal pairRefusal rowRefusal sumRefusal transitionRefusal isTarget improbable seenIn
     sumFrom codesUnknown actionUnknown commonUnknown neededUnknown counterUnknown distsInvalid

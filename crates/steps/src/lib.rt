@@ -47,12 +47,13 @@ pub struct Totals {
 }
 
 // An instance of the framework, as the sender keeps it between calls. It holds no enum and no bool, so every pattern of words has
-// a meaning: `signal_pending` is 0 for none, 1 for all machines, 2 + m for all but machine m. The machines stand first: a copy of
-// them alone is then as long as they are.
+// a meaning: `ended` is how many machines are in STATE_END, `signal_pending` is 0 for none, 1 for all machines, 2 + m for all but
+// machine m. The machines stand first: a copy of them alone is then as long as they are.
 #[repr(C)]
 pub struct Framework {
     pub runtime: [MachineRuntime; 16],
     pub machines: u64,
+    pub ended: u64,
     pub current_time: u64,
     pub signal_pending: u64,
     pub fixed: Fixed,

@@ -1,4 +1,5 @@
-//! What the tests share: draws, machines and events by a generator of random numbers.
+//! What the tests share: draws, machines and events by a generator of random numbers, and what is judged
+//! of a framework beside the Rust's state.
 #![allow(dead_code)]
 
 use maybenot_link::action::Action;
@@ -7,8 +8,59 @@ use maybenot_link::counter::{Counter, Operation};
 use maybenot_link::dist::{Dist, DistType};
 use maybenot_link::event::Event;
 use maybenot_link::state::{State, Trans};
+use maybenot_link::sys::{self, MACHINE_WORDS};
 use maybenot_link::{Draws, Machine, MachineId, Timer, TriggerEvent};
 pub use random::Plain as Random;
+use std::collections::BTreeMap;
+
+/// What occurred, and how often.
+#[derive(Debug, Default)]
+pub struct Seen(BTreeMap<&'static str, usize>);
+
+impl Seen {
+    /// Counts what occurred; what did not is known from then on.
+    pub fn note(&mut self, what: &'static str, occurred: bool) {
+        *self.0.entry(what).or_default() += usize::from(occurred);
+    }
+
+    pub fn times(&self, what: &'static str) -> usize {
+        self.0[what]
+    }
+
+    /// All that was noted occurred more than so many times.
+    pub fn often(&self, least: usize) {
+        for (what, times) in &self.0 {
+            assert!(*times > least, "{what}: {:?}", self.0);
+        }
+    }
+}
+
+/// What `reference/kept` judges of a framework.
+pub fn plain(framework: &sys::Framework) -> kept::Framework {
+    kept::Framework {
+        machines: framework.machines,
+        ended: framework.ended,
+        signal_pending: framework.signal_pending,
+        current_states: framework.runtime.map(|machine| machine.current_state),
+    }
+}
+
+/// How many states each machine of a machine table has.
+pub fn num_states(machines: &[u64]) -> Vec<u64> {
+    machines.chunks_exact(MACHINE_WORDS).map(|row| row[5]).collect()
+}
+
+/// A word of any size.
+pub fn word(random: &mut Random) -> u64 {
+    match random.below(6) {
+        0 => random.word(),
+        1 => random.below(20) as u64,
+        2 => STATE_END as u64 - random.below(3) as u64,
+        3 => u64::MAX - random.below(3) as u64,
+        4 => random.unit().to_bits(),
+        _ => random.word() >> random.below(64),
+    }
+}
 
 /// The generator as a source of words, with the draws that follow from them.
 pub struct Words(pub Random);

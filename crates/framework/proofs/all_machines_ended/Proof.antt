@@ -7,12 +7,9 @@ use Rattle.framework.proofs.all_machines_ended.Tie as tie
 smaller-requires : tie.Need-smaller-requires
 smaller-requires c κs = search needs
 
-ended-to-requires : tie.Need-ended-to-requires
-ended-to-requires c κs = rw (c .smaller .ensures) (search needs)
-
 returns : tie.Need-returns
 unfolding allMachinesEnded
-returns c = rw (c .before .smaller .ensures) at (c .ended-to .ensures)
+returns c = rw (c .before .smaller .ensures)
 
 pub all-machines-ended-spec : {M : Type 1} → statement M
-all-machines-ended-spec = tie.close (tie.spec smaller-requires ended-to-requires returns)
+all-machines-ended-spec = tie.close (tie.spec smaller-requires returns)

@@ -28,7 +28,7 @@ use Rattle.tables.specs.Framework.{isFraction, fractionsRefusal}
 use Rattle.steps.specs.Limits.{belowFraction, belowLimitPadding, belowActionLimits}
 use Rattle.steps.specs.Transition.{enter, scheduleAction, updateOne, tallyA, tallyB, updateCounters, updateCounter, finish, transitionBy, decrementLimit}
 use Rattle.steps.specs.Events.{Tables, each, countsAfter, blockedFor, totalsAfter, turn, machineTurn, processEvent, signals}
-use Rattle.steps.specs.Framework.{startLimit, openMachine, opening, statesFit, fitsTables, kindsFit, eventsFit, batchRefusal, triggerEvents, actionRows, batch}
+use Rattle.steps.specs.Framework.{startLimit, openMachine, opening, statesFit, endedIn, fitsTables, kindsFit, eventsFit, batchRefusal, triggerEvents, actionRows, batch}
 use Rattle.steps.specs.Example.{stateWith, pairCount, quarter32, one32, quarter64, f32, f64}
 use Rattle.steps.specs.Budget.{Call, refusalOf, frameworkOf, Ledger, empty, ledger, Lists, allowance, sum}
 use Rattle.steps.specs.declared.Framework.{Framework}
@@ -122,7 +122,7 @@ pub lead :
     × Leads 2 allowedTwo (0 ∷ 0 ∷ 0 ∷ 0 ∷ []) 3 0
 unfolding
     Lists ledger opening fractionsRefusal isFraction openMachine startLimit sampleLimit hasLimit batch
-    batchRefusal fitsTables statesFit eventsFit kindsFit tablesRefusal orElse firstRefusal wholeTables
+    batchRefusal fitsTables statesFit endedIn eventsFit kindsFit tablesRefusal orElse firstRefusal wholeTables
     machineRefusal beyondFraction statesRefusal eachState stateRefusal eventsRefusal pairRefusal
     rowRefusal sumRefusal transitionRefusal isTarget improbable seenIn sumFrom codesUnknown
     actionUnknown commonUnknown neededUnknown counterUnknown distsInvalid actionInvalid counterInvalid
