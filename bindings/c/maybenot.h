@@ -268,7 +268,7 @@ static inline const char *maybenot_refusal_text(uint64_t refusal) {
     case 15: return "the bounds of a Uniform are not finite, in the wrong order or too far apart";
     case 16: return "a draw was needed beyond the end of a tape";
     case 17: return "a draw is out of the range that it was asked for";
-    case 18: return "the framework is not one of these tables";
+    case 18: return "the framework is not one of these tables, or its number of ended machines is wrong";
     case 19: return "the event list has an odd number of words or a kind above 9";
     case 20: return "the output is shorter than a row for each machine, or than the rows to be listed";
     case 22: return "a line of the sheet is malformed or misplaced";

@@ -240,6 +240,11 @@ impl<T: Borrow<Tables>> Framework<T> {
         self.tables.borrow().num_machines()
     }
 
+    /// How many machines have reached the end state.
+    pub fn num_ended(&self) -> usize {
+        self.state.ended as usize
+    }
+
     /// True if all machines have reached the end state; true with no machines. The framework keeps how
     /// many have ended, so this costs the same for any number of machines.
     pub fn all_machines_ended(&self) -> bool {

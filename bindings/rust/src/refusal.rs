@@ -66,7 +66,7 @@ refusals! {
     15 UniformBounds "the bounds of a Uniform are not finite, in the wrong order or too far apart";
     16 DrawsUsedUp "a draw was needed beyond the end of a tape";
     17 DrawOutOfRange "a draw is out of the range that it was asked for";
-    18 FrameworkMisfit "the framework is not one of these tables";
+    18 FrameworkMisfit "the framework is not one of these tables, or its number of ended machines is wrong";
     19 EventList "the event list has an odd number of words or a kind above 9";
     20 OutputSize "the output is shorter than a row for each machine, or than the rows to be listed";
     22 SheetForm "a line of the sheet is malformed or misplaced";

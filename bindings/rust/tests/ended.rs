@@ -33,6 +33,7 @@ fn numbers(machines: &[Machine], batches: &[&[TriggerEvent]]) -> Vec<u64> {
         framework.batch(1, batch, &[0.5; 50], &[], &mut Vec::new()).unwrap();
         let (state, count) = (framework.state(), machines.len() as u64);
         assert_eq!(state.ended, plain(state).in_state_end());
+        assert_eq!(framework.num_ended() as u64, state.ended);
         assert_eq!(framework.all_machines_ended(), state.ended == count);
         found.push(state.ended);
     }

@@ -11,9 +11,8 @@ ghost use mathlib.Core.Bool.{cond, _||_};
 ghost use mathlib.Core.List.{List};
 ghost use Prim.Native.Nat.{ℕ, _*_, _/_, _≤_};
 ghost use lib.Dec.{eqb, ltb};
-ghost use lib.ListN.{length};
 ghost use Rattle.machine.specs.Constants.{stateEnd};
-ghost use Rattle.steps.specs.Framework.{rowsIn, statesFit, endedIn, fitsTables, kindsFit, eventsFit};
+ghost use Rattle.steps.specs.Framework.{rowsIn, statesFit, endedIn, fitsTables, eventsFit};
 ghost use Rattle.events.specs.Run.{tables};
 
 // Whether a current state is ended, or one of the machine's.

@@ -26,27 +26,29 @@ const SHORT_TRANSITIONS: u64 = 3;
 
 const SHORT_OPENING: u64 = 4;
 
-// A framework with a machine more, with a state one past its machine's last, and with a pending
-// signal that leaves out an unknown machine, refused as 18:
+// A framework with a machine more, with a state one past its machine's last, with a pending signal
+// that leaves out an unknown machine, and with an ended number one too large, refused as 18:
 const MACHINE_MORE: u64 = 5;
 
 const STATE_BEYOND: u64 = 6;
 
 const SIGNAL_BEYOND: u64 = 7;
 
-// Half an event, and a kind of 10, refused as 19:
-const HALF_EVENT: u64 = 8;
+const ENDED_MORE: u64 = 8;
 
-const KIND_TEN: u64 = 9;
+// Half an event, and a kind of 10, refused as 19:
+const HALF_EVENT: u64 = 9;
+
+const KIND_TEN: u64 = 10;
 
 // An output one word short, refused as 20:
-const SHORT_OUTPUT: u64 = 10;
+const SHORT_OUTPUT: u64 = 11;
 
 // Tables that the opening refused, which a batch refuses the same way:
-const REFUSED_TABLES: u64 = 11;
+const REFUSED_TABLES: u64 = 12;
 
 // The framework of an opening that was refused for its draws, refused as 18:
-const NO_FRAMEWORK: u64 = 12;
+const NO_FRAMEWORK: u64 = 13;
 
 // The last damage of an accepted opening's framework.
 const LAST: u64 = SHORT_OUTPUT;
@@ -58,14 +60,14 @@ fn applies(words: &[u64], damage: u64) -> bool
     match damage {
         SHORT_STATES => 0 < stream::state_table(words).len(),
         SHORT_TRANSITIONS => 0 < stream::transition_table(words).len(),
-        MACHINE_MORE | SIGNAL_BEYOND | HALF_EVENT | KIND_TEN => true,
+        MACHINE_MORE | SIGNAL_BEYOND | ENDED_MORE | HALF_EVENT | KIND_TEN => true,
         _ => 0 < stream::machine_table(words).len(),
     }
 }
 
 fn refusal_of(damage: u64) -> u64 {
     match damage {
-        MACHINE_MORE | STATE_BEYOND | SIGNAL_BEYOND => 18,
+        MACHINE_MORE | STATE_BEYOND | SIGNAL_BEYOND | ENDED_MORE => 18,
         HALF_EVENT | KIND_TEN => 19,
         SHORT_OUTPUT => 20,
         _ => 3,
@@ -133,6 +135,10 @@ fn changed(fw: Framework, words: &[u64], damage: u64) -> Framework
     }
     if damage == SIGNAL_BEYOND {
         d.signal_pending = numbers::saturating_add(fw.machines, 2);
+        return d;
+    }
+    if damage == ENDED_MORE {
+        d.ended = numbers::saturating_add(fw.ended, 1);
         return d;
     }
     if damage == STATE_BEYOND {

@@ -56,19 +56,31 @@ pub fn lent_batch(
     )
 }
 
-// Whether all_machines_ended says of a framework what its machines' states say.
-fn ended_as_it_is(fw: Framework) -> bool {
-    let ended = framework::all_machines_ended(fw);
+// How many machines of a framework are in STATE_END.
+fn in_state_end(fw: Framework) -> u64 {
     let machines = at_most_max(fw.machines);
+    let mut ended: u64 = 0;
     let mut m: usize = 0;
     while m < machines {
         let r = fw.runtime[m];
-        if r.current_state != STATE_END {
-            return !ended;
+        if r.current_state == STATE_END {
+            ended = numbers::saturating_add(ended, 1);
         }
         m += 1;
     }
     ended
+}
+
+// Whether the ended number of a framework is that, and all_machines_ended says whether it is all.
+fn ended_as_it_is(fw: Framework) -> bool {
+    let ended = in_state_end(fw);
+    if fw.ended != ended {
+        return false;
+    }
+    if ended == at_most_max(fw.machines) as u64 {
+        return framework::all_machines_ended(fw);
+    }
+    !framework::all_machines_ended(fw)
 }
 
 // Whether the output from a place on is as it was.
@@ -202,6 +214,9 @@ pub fn refused_field(
     );
     let mut theirs = [0u64; ANSWER];
     put_answer(&mut theirs, refusal, 0, 0, 0, out, before, MACHINE_MAX);
+    if after.ended != before.ended {
+        return ENDED;
+    }
     if untouched(out, 0) {
         return difference(&ours, &theirs);
     }
@@ -225,5 +240,8 @@ pub fn refused_opening_field(refusal: u64, o: Opened) -> usize {
     let mut theirs = [0u64; ANSWER];
     theirs[0] = refusal;
     theirs[ROWS_AT] = STATE_MOST as u64;
+    if fw.ended != 0 {
+        return ENDED;
+    }
     difference(&ours, &theirs)
 }

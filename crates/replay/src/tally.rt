@@ -17,7 +17,7 @@ pub const AGREED: usize = ANSWER;
 // Output words behind the rows were written.
 pub const OUTPUT: usize = ANSWER + 1;
 
-// all_machines_ended
+// The ended number, or all_machines_ended.
 pub const ENDED: usize = ANSWER + 2;
 
 // A start state without an action has a limit.

@@ -1,5 +1,5 @@
--- The ended number: every call leaves the right one, and by it all_machines_ended answers what a look at every machine would. Assumes
--- nothing.
+-- The ended number: every call leaves the right one, so that no batch after it is refused for it, and by it all_machines_ended answers what
+-- a look at every machine would. Assumes nothing.
 use Prim.Native.Nat.{ℕ, zero, suc, _+_, _≤_, _<_, min}
 use native.Mathlib.Nat.{lt-irrefl}
 use native.Mathlib.Omega.{arith}
@@ -10,17 +10,18 @@ use lib.Dec.{T, eqb}
 use lib.Ieee.{Float}
 use lib.ListN.{getD}
 use borrow.Author.Tests.{eqb-true, eqb-false, eq-eqb, ne-eqb}
-use Rattle.machine.specs.Constants.{machineMax, stateEnd}
-use Rattle.machine.specs.Source.{Source, Telling}
+use Rattle.machine.specs.Constants.{machineMax}
+use Rattle.machine.specs.Source.{Source, Telling, tapes}
 use Rattle.machine.specs.declared.source.Place.{Place}
 use Rattle.steps.specs.Events.{Tables, numMachines, noRuntime, runtimeAt}
-use Rattle.steps.specs.Framework.{rowsIn, hasEnded, endedIn, fitsTables, opening, triggerEvents, batch, allMachinesEnded}
+use Rattle.steps.specs.Framework.{hasEnded, endedIn, fitsTables, opening, triggerEvents, batch, allMachinesEnded}
 use Rattle.steps.specs.Runs.{ok-any, opening-ok, batch-ok}
 use Rattle.steps.specs.Draws.{by-any, by-told}
 use Rattle.steps.specs.Targets.{Passed}
 use Rattle.steps.specs.Refusals.{run-stops}
-use Rattle.steps.specs.Fits.{fits-says, few, Fresh, opens-fresh, none-ended}
-use Rattle.steps.specs.Budget.{Call, frameworkOf}
+use Rattle.steps.specs.Fits.{fits-says, few, batch-fits, Fresh, opens-fresh, none-ended, opening-fits, never-18-on-tapes}
+use Rattle.steps.specs.Budget.{Call, refusalOf, frameworkOf}
+use Rattle.steps.specs.Budget.Batches.{refused-law}
 use Rattle.steps.specs.declared.MachineRuntime.{MachineRuntime}
 use Rattle.steps.specs.declared.Framework.{Framework}
 
@@ -66,7 +67,43 @@ ended-is-right tables padding blocking time D cs =
     list x [] h = h
     list x (c ∷ cs) h = list (frameworkOf x c) cs (batch-right x (c .tables) (c .time) (c .events) (c .source) (c .out) h)
 
--- ---- THEOREM: of a framework that fits tables that passed, all_machines_ended is true exactly where every machine is in STATE_END.
+-- ---- THEOREM: after an accepted opening and any list of batches, refused ones too, of which the accepted ones were lent the opening's
+-- tables, a batch on two tapes that is lent these is not refused as 18.
+abbrev pub LentSame : Tables → Framework → List Call → Type 0
+LentSame tables x [] = Unit
+LentSame tables x (c ∷ cs) = (refusalOf x c ≡ 0 → c .tables ≡ tables) × LentSame tables (frameworkOf x c) cs
+
+next-fits : (tables : Tables) (x : Framework) (c : Call) → T (fitsTables tables x) → (refusalOf x c ≡ 0 → c .tables ≡ tables)
+    → T (fitsTables tables (frameworkOf x c))
+next-fits tables x c fits same = by (eqb (refusalOf x c) 0) refl
+  where
+    by : (b : Bool) → eqb (refusalOf x c) 0 ≡ b → T (fitsTables tables (frameworkOf x c))
+    by true e =
+        let z = eqb-true (refusalOf x c) 0 e in
+        subst (λ (t : Tables). T (fitsTables t (frameworkOf x c))) (same z)
+        (batch-fits x (c .tables) (c .time) (c .events) (c .source) (c .out) z)
+    by false e =
+        subst (λ (y : Framework). T (fitsTables tables y))
+        (sym (refused-law x (c .tables) (c .time) (c .events) (c .source) (c .out) (eqb-false (refusalOf x c) 0 e))) fits
+
+after-fits : (tables : Tables) (x : Framework) (cs : List Call) → T (fitsTables tables x) → LentSame tables x cs
+    → T (fitsTables tables (after x cs))
+after-fits tables x [] fits same = fits
+after-fits tables x (c ∷ cs) fits same = after-fits tables (frameworkOf x c) cs (next-fits tables x c fits (same .0)) (same .1)
+
+pub never-18-after : (tables : Tables) (padding blocking : Float) (opened : ℕ) (D : Source Place) → Telling D
+    → opening tables padding blocking opened D .refusal ≡ 0
+    → (cs : List Call) → LentSame tables (opening tables padding blocking opened D .framework) cs
+    → (time : ℕ) (es : List ℕ) (chances values : List Float) (out : List ℕ)
+    → batch (after (opening tables padding blocking opened D .framework) cs) tables time es (tapes chances values) out .answer .refusal ≡ 18
+    → ⊥
+never-18-after tables padding blocking opened D tells e cs same time es chances values out =
+    let x = opening tables padding blocking opened D .framework in
+    never-18-on-tapes (after x cs) tables time es chances values out
+    (after-fits tables x cs (opening-fits tables padding blocking opened D tells e) same)
+
+-- ---- THEOREM: where the number is right, all_machines_ended is true exactly where every machine is in STATE_END; so it is of every framework
+-- that fits tables that passed.
 abbrev pub everyEnded : Framework → ℕ → Bool
 everyEnded fw zero = true
 everyEnded fw (suc n) = everyEnded fw n && hasEnded (runtimeAt fw n)
@@ -92,13 +129,15 @@ all-counted fw (suc n) =
     by false k true h e = ne-eqb (k + 0) (suc n) (λ z. omega arith)
     by false k false h e = ne-eqb (k + 0) (suc n) (λ z. omega arith)
 
-pub all-ended : (tables : Tables) (fw : Framework) → Passed tables → T (fitsTables tables fw)
-    → allMachinesEnded fw ≡ everyEnded fw (numMachines fw)
+pub all-ended-is : (fw : Framework) → Right fw → allMachinesEnded fw ≡ everyEnded fw (numMachines fw)
 unfolding allMachinesEnded
-all-ended tables fw valid fits =
+all-ended-is fw right = ap (λ (n : ℕ). eqb n (numMachines fw)) right ∙ all-counted fw (numMachines fw)
+
+pub all-ended-fits : (tables : Tables) (fw : Framework) → Passed tables → T (fitsTables tables fw)
+    → allMachinesEnded fw ≡ everyEnded fw (numMachines fw)
+all-ended-fits tables fw valid fits =
     let f = fits-says tables fw fits in
-    ap (λ (n : ℕ). eqb n (numMachines fw)) (f .ended ∙ ap (endedIn (fw .runtime)) (num (fw .machines) _ (f .machines) (few tables valid)))
-    ∙ all-counted fw (numMachines fw)
+    all-ended-is fw (f .ended ∙ ap (endedIn (fw .runtime)) (num (fw .machines) _ (f .machines) (few tables valid)))
   where
     num : (m n : ℕ) → m ≡ n → n ≤ machineMax → n ≡ min m machineMax
     num m n e l = omega arith

@@ -22,8 +22,8 @@ use Rattle.tables.specs.Valid.Laws.{zero-valid}
 use Rattle.steps.specs.Limits.{belowActionLimits}
 use Rattle.steps.specs.Transition.{noAction, raise, transition}
 use Rattle.steps.specs.Events.{Tables, Run, Outcome, stop, go, numMachines, noRuntime, runtimeAt, envOf, stored, limitFalls, turn, machineTurn, signalMachine}
-use Rattle.steps.specs.Framework.{rowsIn, statesFit, hasEnded, endedIn, fitsTables, eventsFit, openRun, opening, triggerEvents, batchRefusal, ending, accepted, batch}
-use Rattle.steps.specs.Runs.{either, stored-all, Ok, ok-any, none-of, openRefusal, opening-ok, batch-ok, event-kept, run-kept}
+use Rattle.steps.specs.Framework.{rowsIn, statesFit, hasEnded, endedIn, fitsTables, eventsFit, openRun, opening, triggerEvents, batchRefusal, accepted, batch}
+use Rattle.steps.specs.Runs.{either, stored-all, Ok, none-of, openRefusal, opening-ok, batch-ok, event-kept, run-kept}
 use Rattle.steps.specs.Draws.{Refuses, by-any, by-told, by-tapes, Gives}
 use Rattle.steps.specs.Walk.{Alive, Closed, rowOf}
 use Rattle.steps.specs.Machines.{comesIn, opening-kept, Family, member, InRun, batch-kept}

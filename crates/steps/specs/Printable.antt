@@ -3,12 +3,10 @@
 use Prim.Native.Nat.{ℕ, _+_, _*_, _/_, _%_, _≤_, _<_, min}
 use native.Mathlib.Nat.{le-trans, le-of-eq}
 use native.Mathlib.Omega.{arith}
-use mathlib.Core.Bool.{Bool, true, false, cond, _&&_, false≢true}
+use mathlib.Core.Bool.{true, false, false≢true}
 use mathlib.Core.List.{List}
-use mathlib.Core.Logic.{inl, inr}
-use mathlib.Core.Path.{_≡_, refl, sym, ap, _∙_, subst}
-use lib.Dec.{T, eqb, eqb→eq, lit<}
-use lib.Ieee.Fits.{and-l, and-r}
+use mathlib.Core.Path.{_≡_, sym, ap, _∙_, subst}
+use lib.Dec.{T, eqb, lit<}
 use lib.ListN.{getD, drop}
 use lib.Seq.{getD-drop}
 use borrow.Author.Tests.{eqb-true, eqb-false, eq-eqb}
@@ -16,20 +14,18 @@ use Rattle.machine.specs.Constants.{machineMax, flags, maxSampledTimeout, maxSa
 use Rattle.machine.specs.Source.{Source}
 use Rattle.machine.specs.declared.source.Place.{Place}
 use Rattle.samples.specs.Action.{actionOf}
-use Rattle.tables.specs.Machine.{tablesRefusal}
 use Rattle.tables.specs.Valid.{KnownAction}
-use Rattle.tables.specs.Valid.Laws.{zero-valid}
 use Rattle.steps.specs.Limits.{belowActionLimits}
 use Rattle.steps.specs.Transition.{noAction, returnedFlags, returnedTimer}
 use Rattle.steps.specs.Events.{Tables, numMachines, envOf}
-use Rattle.steps.specs.Framework.{rowsIn, statesFit, fitsTables, triggerEvents, batchRefusal, accepted, batch}
-use Rattle.steps.specs.Runs.{by-test, Ok, ok-any, none-of, batch-ok}
-use Rattle.steps.specs.Draws.{by-any, Gives}
-use Rattle.steps.specs.Walk.{Closed, rowOf}
-use Rattle.steps.specs.Machines.{Family, member, InRun, batch-kept}
+use Rattle.steps.specs.Framework.{rowsIn, fitsTables, triggerEvents, accepted, batch}
+use Rattle.steps.specs.Runs.{by-test, Ok, ok-any, batch-ok}
+use Rattle.steps.specs.Draws.{Gives}
+use Rattle.steps.specs.Walk.{rowOf}
+use Rattle.steps.specs.Machines.{InRun}
 use Rattle.steps.specs.Fits.{fits-says, insideIn, run-inside, checked}
 use Rattle.steps.specs.Rows.{rowWords, RowOf, rows-most, rows-are}
-use Rattle.steps.specs.Targets.{Inside, in-state, Passed, statesIn, valid-state, goes-inside, fit-states}
+use Rattle.steps.specs.Targets.{in-state, Passed, valid-state}
 use Rattle.steps.specs.declared.MachineRuntime.{MachineRuntime}
 use Rattle.steps.specs.declared.Context.{Context}
 use Rattle.steps.specs.declared.Framework.{Framework}

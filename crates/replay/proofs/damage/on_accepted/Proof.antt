@@ -5,10 +5,10 @@ use Rattle.replay.proofs.damage.on_accepted.Statement.{statement}
 use Rattle.replay.proofs.damage.on_accepted.Tie as tie
 
 abbrev Inv-loop : tie.InvT-loop
-Inv-loop fw words r₀ damage₀ r damage = damage ≤ 11
+Inv-loop fw words r₀ damage₀ r damage = damage ≤ 12
 
 abbrev μ-loop : tie.MeasureT-loop
-μ-loop fw words r₀ damage₀ r damage = 11 - damage
+μ-loop fw words r₀ damage₀ r damage = 12 - damage
 
 loop-holds : tie.Need-loop-holds Inv-loop μ-loop
 loop-holds c = search needs
