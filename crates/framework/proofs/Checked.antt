@@ -1,5 +1,5 @@
 -- Refusals in order, and what holds where there is none.
-use Prim.Native.Nat.{ℕ, _*_, _/_, _%_, _≤_}
+use Prim.Native.Nat.{ℕ, _+_, _*_, _/_, _%_, _≤_, min}
 use mathlib.Core.Path.{_≡_, refl, sym, subst}
 use mathlib.Core.List.{List}
 use mathlib.Core.Bool.{Bool, true, false, false≢true, cond, _&&_}
@@ -12,7 +12,7 @@ use Rattle.tables.specs.First.{orElse}
 use Rattle.tables.specs.Machine.{tablesRefusal}
 use Rattle.tables.specs.Valid.Laws.{zero-valid}
 use Rattle.steps.specs.Events.{Tables, numMachines}
-use Rattle.steps.specs.Framework.{rowsIn, fitsTables, kindsFit, eventsFit, batchRefusal}
+use Rattle.steps.specs.Framework.{rowsIn, statesFit, endedIn, fitsTables, kindsFit, eventsFit, batchRefusal}
 use Rattle.steps.specs.Fits.{fits-says}
 use Rattle.steps.specs.declared.Framework.{Framework}
 use Rattle.events.proofs.All.{bool-cases}
@@ -50,6 +50,17 @@ none-then a b e =
 pub few-machines : (machines states transitions : List ℕ) →
     tablesRefusal machines states transitions ≡ 0 → rowsIn machines ≤ 16
 few-machines machines states transitions e = zero-valid machines states transitions e .whole .most
+
+-- what 18 asks, by a look at n machines: as many as the tables have rows, or 16 where there are more, and these do not pass
+pub fits-is : (T : Tables) (fw : Framework) (n : ℕ) (fit : Bool) (found : ℕ) → n ≡ min (rowsIn (T .machines)) 16
+    → fit ≡ statesFit T fw n → found ≡ endedIn (fw .runtime) n → tablesRefusal (T .machines) (T .states) (T .transitions) ≡ 0
+    → (eqb (fw .machines) (rowsIn (T .machines)) && fit && ltb (fw .«signal_pending») (2 + rowsIn (T .machines)) && eqb (fw .ended) found)
+    ≡ fitsTables T fw
+unfolding fitsTables
+fits-is T fw n fit found e f g z =
+    let few = few-machines (T .machines) (T .states) (T .transitions) z in
+    let h : n ≡ rowsIn (T .machines) = omega (arith, e, few) in
+    rw (f, g, h)
 
 kinds-fit : (es : List ℕ) → eventsFit es ≡ true → kindsFit es (length es / 2) ≡ true
 unfolding eventsFit

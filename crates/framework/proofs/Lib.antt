@@ -1,4 +1,5 @@
 pub mod Checked
+pub mod Ended
 pub mod Opens
 pub mod Outcomes
 pub mod Written

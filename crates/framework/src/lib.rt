@@ -1,7 +1,9 @@
 // framework.rs, the outer half: the opening, a batch of events with its refusals and its output, and
 // all_machines_ended.
 use machine::constants::MACHINE_WORDS;
+use machine::constants::NUM_STATES;
 use machine::constants::ROW_WORDS;
+use machine::state::word;
 use steps::Answer;
 use steps::Framework;
 use steps::Opened;
@@ -13,6 +15,7 @@ ghost use mathlib.Core.List.{List, []};
 ghost use Prim.Native.Nat.{ℕ, _*_, _/_, _≤_};
 ghost use lib.ListN.{length};
 ghost use Rattle.machine.specs.Constants.{rowWords};
+ghost use Rattle.tables.specs.Machine.{tablesRefusal};
 ghost use Rattle.steps.specs.Events.{numMachines};
 ghost use Rattle.steps.specs.Framework as Spec;
 ghost use Rattle.machine.specs.Source.{tapes};
@@ -54,9 +57,10 @@ pub fn opening(
     )
 }
 
-// What a batch refuses before it runs; `room` is the output's length.
+// What a batch refuses before it runs, where `fits` says whether its framework fits tables that
+// pass; `room` is the output's length.
 fn batch_refusal(
-    fw: Framework,
+    fits: bool,
     machines: &[u64],
     states: &[u64],
     transitions: &[u64],
@@ -65,13 +69,14 @@ fn batch_refusal(
 ) -> u64
     ensures { λ r. ⌜ (
         let T = tables (now (machines .entry)) (now (states .entry)) (now (transitions .entry)) in
-        ((out : List ℕ) → length out ≡ room → r ≡ Spec.batchRefusal fw T (now (events .entry)) out)) ⌝ }
+        ((fw : Framework) (out : List ℕ) → (tablesRefusal (T .machines) (T .states) (T .transitions) ≡ 0 → fits ≡ Spec.fitsTables T fw)
+        → length out ≡ room → r ≡ Spec.batchRefusal fw T (now (events .entry)) out)) ⌝ }
 {
     let refusal = tables::check_tables(machines, states, transitions);
     if refusal != 0 {
         return refusal;
     }
-    if checks::fits_tables(fw, machines) {
+    if fits {
         if checks::events_fit(events) {
             if room < ROW_WORDS * (machines.len() / MACHINE_WORDS) {
                 return 20;
@@ -167,7 +172,13 @@ fn accepted(ran: Ran, out: &mut [u64]) -> Answer
     let s = ran.shared;
     let count = numbers::smaller(f.machines, 16) as usize;
     let rows = rows::put_rows(actions, count, out);
-    let ended = checks::ended_in(f, count);
+    let mut ended = 0;
+    let mut m = 0;
+    while m < count {
+        let r = f.runtime[m];
+        ended = ended + checks::one_if_ended(r.current_state);
+        m = m + 1;
+    }
     f.ended = ended;
     f.signal_pending = s.signal_pending;
     Answer {
@@ -180,6 +191,7 @@ fn accepted(ran: Ran, out: &mut [u64]) -> Answer
 }
 
 // trigger_events: a batch of events at one time, and the actions that it returns as rows of `out`.
+// The machines are looked at here, where the framework is at hand: handed on, it would be copied.
 pub fn batch(
     fw: Framework,
     machines: &[u64],
@@ -197,7 +209,29 @@ pub fn batch(
         let B = Spec.batch fw T time (now (events .entry)) D (now (out .entry)) in
         (r ≡ B .answer) × (now (out .exit) ≡ B .out)) ⌝ }
 {
-    let refusal = batch_refusal(fw, machines, states, transitions, events, out.len());
+    let count = numbers::smaller((machines.len() / MACHINE_WORDS) as u64, 16) as usize;
+    let mut fit = true;
+    let mut ended = 0;
+    let mut m = 0;
+    while m < count {
+        let r = fw.runtime[m];
+        fit = fit
+            & checks::state_fits(
+                r.current_state,
+                word(machines, m * MACHINE_WORDS + NUM_STATES),
+            );
+        ended = ended + checks::one_if_ended(r.current_state);
+        m = m + 1;
+    }
+    let fits = checks::fits_tables(
+        fw.machines,
+        fit,
+        fw.signal_pending,
+        fw.ended,
+        ended,
+        machines,
+    );
+    let refusal = batch_refusal(fits, machines, states, transitions, events, out.len());
     if refusal != 0 {
         return refused(fw, refusal);
     }

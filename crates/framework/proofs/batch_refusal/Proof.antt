@@ -3,7 +3,7 @@ use borrow.Author.Needs.{needs}
 use mathlib.Core.Path.{refl, sym, _∙_}
 use borrow.Author.Tests.{lt-ltb, le-ltb}
 use Rattle.steps.specs.Framework.{batchRefusal}
-use Rattle.framework.proofs.Checked.{first-is, then-is, few-machines}
+use Rattle.framework.proofs.Checked.{first-is, then-is}
 use Rattle.framework.proofs.batch_refusal.Statement.{statement}
 use Rattle.framework.proofs.batch_refusal.Tie as tie
 
@@ -13,11 +13,8 @@ check-tables-requires c κs = search needs
 returns : tie.Need-returns
 unfolding batchRefusal
 returns c =
-    λ out e. c .before .check-tables .ensures
+    λ fw out says e. c .before .check-tables .ensures
     ∙ sym (first-is _ _ (λ z. c .if1 .taken (c .before .check-tables .ensures ∙ z)))
-
-fits-tables-requires : tie.Need-fits-tables-requires
-fits-tables-requires c κs = few-machines _ _ _ (sym (c .before .check-tables .ensures) ∙ c .if1 .left)
 
 events-fit-requires : tie.Need-events-fit-requires
 events-fit-requires c κs = search needs
@@ -31,15 +28,11 @@ returns-2 c =
     let if3 = c .before .if3 in
     let events-fit = c .before .before .events-fit in
     let if2 = c .before .before .before .if2 in
-    let fits-tables = c .before .before .before .before .fits-tables in
-    let if1 = c .before .before .before .before .before .if1 in
-    let check-tables = c .before .before .before .before .before .before .check-tables in
-    let c₁ = c .before .before .before .before .before .before .before .before in
-    let args = c₁ .before .before .before .args in
-    λ out e.
+    let if1 = c .before .before .before .before .if1 in
+    let check-tables = c .before .before .before .before .before .check-tables in
+    λ fw out says e.
     let tables = sym (check-tables .ensures) ∙ if1 .left in
-    let fits = sym (fits-tables .ensures (args .states .now) (args .transitions .now)) ∙ if2 .taken in
-    rw (then-is _ _ tables, fits, sym (events-fit .ensures) ∙ if3 .taken, e, lt-ltb _ _ (c .if4 .taken)) refl
+    rw (then-is _ _ tables, sym (says tables) ∙ if2 .taken, sym (events-fit .ensures) ∙ if3 .taken, e, lt-ltb _ _ (c .if4 .taken)) refl
 
 returns-3 : tie.Need-returns-3
 unfolding batchRefusal
@@ -47,43 +40,31 @@ returns-3 c =
     let if3 = c .before .if3 in
     let events-fit = c .before .before .events-fit in
     let if2 = c .before .before .before .if2 in
-    let fits-tables = c .before .before .before .before .fits-tables in
-    let if1 = c .before .before .before .before .before .if1 in
-    let check-tables = c .before .before .before .before .before .before .check-tables in
-    let c₁ = c .before .before .before .before .before .before .before .before in
-    let args = c₁ .before .before .before .args in
-    λ out e.
+    let if1 = c .before .before .before .before .if1 in
+    let check-tables = c .before .before .before .before .before .check-tables in
+    λ fw out says e.
     let tables = sym (check-tables .ensures) ∙ if1 .left in
-    let fits = sym (fits-tables .ensures (args .states .now) (args .transitions .now)) ∙ if2 .taken in
-    rw (then-is _ _ tables, fits, sym (events-fit .ensures) ∙ if3 .taken, e, le-ltb _ _ (c .if4 .left)) refl
+    rw (then-is _ _ tables, sym (says tables) ∙ if2 .taken, sym (events-fit .ensures) ∙ if3 .taken, e, le-ltb _ _ (c .if4 .left)) refl
 
 returns-4 : tie.Need-returns-4
 unfolding batchRefusal
 returns-4 c =
     let events-fit = c .before .events-fit in
     let if2 = c .before .before .if2 in
-    let fits-tables = c .before .before .before .fits-tables in
-    let if1 = c .before .before .before .before .if1 in
-    let check-tables = c .before .before .before .before .before .check-tables in
-    let c₁ = c .before .before .before .before .before .before .before .before in
-    let args = c₁ .before .before .args in
-    λ out e.
+    let if1 = c .before .before .before .if1 in
+    let check-tables = c .before .before .before .before .check-tables in
+    λ fw out says e.
     let tables = sym (check-tables .ensures) ∙ if1 .left in
-    let fits = sym (fits-tables .ensures (args .states .now) (args .transitions .now)) ∙ if2 .taken in
-    rw (then-is _ _ tables, fits, sym (events-fit .ensures) ∙ c .if3 .left) refl
+    rw (then-is _ _ tables, sym (says tables) ∙ if2 .taken, sym (events-fit .ensures) ∙ c .if3 .left) refl
 
 returns-5 : tie.Need-returns-5
 unfolding batchRefusal
 returns-5 c =
-    let fits-tables = c .before .fits-tables in
-    let if1 = c .before .before .if1 in
-    let check-tables = c .before .before .before .check-tables in
-    let c₁ = c .before .before .before .before .before .before .before .before in
-    let args = c₁ .args in
-    λ out e.
+    let if1 = c .before .if1 in
+    let check-tables = c .before .before .check-tables in
+    λ fw out says e.
     let tables = sym (check-tables .ensures) ∙ if1 .left in
-    let fits = sym (fits-tables .ensures (args .states .now) (args .transitions .now)) ∙ c .if2 .left in
-    rw (then-is _ _ tables, fits) refl
+    rw (then-is _ _ tables, sym (says tables) ∙ c .if2 .left) refl
 
 pub batch-refusal-spec : {M : Type 1} → statement M
 batch-refusal-spec =
@@ -91,7 +72,6 @@ batch-refusal-spec =
     (tie.spec
     check-tables-requires
     returns
-    fits-tables-requires
     events-fit-requires
     mul-if4
     returns-2
