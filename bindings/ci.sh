@@ -1,6 +1,7 @@
 #!/usr/bin/env bash
-# Tests what links target/staticlib/libsender.a: the C interface, and the Rust crate with its example.
+# Tests what links target/staticlib/libsender.a: the C interface, the Rust crate with its example, and calls beside the Rust.
 set -euo pipefail
 cd "$(dirname "$0")"
 c/ci.sh
 rust/ci.sh
+judged/ci.sh

@@ -2,7 +2,7 @@
 
 use crate::clock::Clock;
 use crate::input::{self, Tapes};
-use crate::reference::{self, Micros, Reference};
+use crate::reference::{self, Micros, Reference, Tape};
 use harness::stream::{COUNTER_A, COUNTER_B, DURATION, LIMIT, MACHINE, PAIRS, STATE, TIMEOUT};
 use maybenot_link::dist::DistType;
 use maybenot_link::sys::{self, Words};
@@ -15,10 +15,24 @@ use std::rc::Rc;
 const OUT: usize = 96;
 
 pub struct Batch {
-    time: u64,
-    ours: Vec<u64>,
-    typed: Vec<TriggerEvent>,
-    reference: Vec<maybenot::TriggerEvent>,
+    pub time: u64,
+    pub ours: Vec<u64>,
+    pub typed: Vec<TriggerEvent>,
+    pub reference: Vec<maybenot::TriggerEvent>,
+}
+
+/// Some batches of events for so many machines.
+pub fn batches_of(random: &mut Random, count: usize, events: usize, batches: usize) -> Vec<Batch> {
+    let batch = |k: usize| {
+        let typed = input::events(random, events, count);
+        Batch {
+            time: 50 * (k as u64 + 1),
+            ours: typed.iter().flat_map(|event| event.to_words()).collect(),
+            reference: typed.iter().map(reference::event_of).collect(),
+            typed,
+        }
+    };
+    (0..batches).map(batch).collect()
 }
 
 pub struct Case {
@@ -37,24 +51,19 @@ impl Case {
     }
 
     pub fn of(machines: &[Machine], events: usize, batches: usize) -> Case {
-        let mut random = Random::new(7);
-        let count = machines.len();
-        let batch = |k: usize| {
-            let typed = input::events(&mut random, events, count);
-            Batch {
-                time: 50 * (k as u64 + 1),
-                ours: typed.iter().flat_map(|event| event.to_words()).collect(),
-                reference: typed.iter().map(reference::event_of).collect(),
-                typed,
-            }
-        };
-        let batches: Vec<Batch> = (0..batches).map(batch).collect();
+        let (mut random, count) = (Random::new(7), machines.len());
+        let batches = batches_of(&mut random, count, events, batches);
         let most = batches.len() * (events * (count + 1) + count + 2);
-        let tapes = Rc::new(input::tapes(&mut random, most, 3 * most));
-        let tables = Tables::new(machines).expect("valid machines");
+        let tapes = input::tapes(&mut random, most, 3 * most);
+        Case::on(machines, batches, tapes)
+    }
+
+    /// These batches with these draws.
+    pub fn on(machines: &[Machine], batches: Vec<Batch>, tapes: Tapes) -> Case {
+        let (tables, tapes) = (Tables::new(machines).expect("valid machines"), Rc::new(tapes));
         let (ours, used) =
             Framework::open_with(tables.clone(), 0.5, 0.5, 0, &tapes.values).expect("opens");
-        let reference = reference::open(machines, &tapes);
+        let reference = reference::open(machines, Tape::new(&tapes));
         let case = Case { tables, batches, tapes, ours, reference, values_at: used.values };
         case.compare();
         case
@@ -93,27 +102,53 @@ impl Case {
 
     /// Nanoseconds for a batch, by ours, with the tables lent and the words of the output read.
     pub fn time_ours(&self) -> f64 {
-        let (mut framework, words) = (*self.ours.state(), self.tables.words());
-        let (mut chance_at, mut value_at) = (0, self.values_at);
-        let mut out = [0; OUT];
-        let start = Clock::start();
-        for batch in &self.batches {
+        self.run_ours().0
+    }
+
+    /// The same, with the framework after the last batch.
+    pub fn run_ours(&self) -> (f64, sys::Framework) {
+        let (words, mut chance_at, mut value_at) = (self.tables.words(), 0, self.values_at);
+        self.run_calls(|framework, batch, out| {
             let reply = sys::batch(
-                &mut framework,
+                framework,
                 words,
                 batch.time,
                 &batch.ours,
                 &self.tapes.chances[chance_at..],
                 &self.tapes.values[value_at..],
-                &mut out,
+                out,
             );
             chance_at += reply.chance_used as usize;
             value_at += reply.value_used as usize;
-            black_box(&out[..6 * reply.actions as usize]);
+            reply.actions
+        })
+    }
+
+    /// Nanoseconds for a batch, by calls of the library, and the framework after the last one. `call` runs
+    /// a batch and gives the number of rows.
+    pub fn run_calls(
+        &self,
+        mut call: impl FnMut(&mut sys::Framework, &Batch, &mut [u64]) -> u64,
+    ) -> (f64, sys::Framework) {
+        let (mut framework, mut out) = (*self.ours.state(), [0; OUT]);
+        let start = Clock::start();
+        for batch in &self.batches {
+            let actions = call(&mut framework, batch, &mut out);
+            black_box(&out[..6 * actions as usize]);
         }
         let time = self.per_batch(start);
         assert_eq!(framework.current_time, self.batches[self.batches.len() - 1].time);
-        time
+        (time, framework)
+    }
+
+    /// The library's framework at the opening.
+    pub fn opened(&self) -> &sys::Framework {
+        self.ours.state()
+    }
+
+    /// How many draws there are on both tapes.
+    pub fn draws(&self) -> [usize; 2] {
+        [self.tapes.chances.len(), self.tapes.values.len()]
     }
 
     /// The same by an archive that may be another one.
@@ -186,7 +221,7 @@ impl Case {
         time_refused(self.tables.words(), self.tables.num_machines() as u64 + 1, self.batches.len())
     }
 
-    fn per_batch(&self, start: Clock) -> f64 {
+    pub fn per_batch(&self, start: Clock) -> f64 {
         start.nanoseconds() / self.batches.len() as f64
     }
 }

@@ -2,7 +2,7 @@
 
 use crate::clock::Clock;
 use crate::input::Tapes;
-use crate::reference::{self, Micros, Reference};
+use crate::reference::{self, Micros, Reference, Tape};
 use crate::{header, medians, BLOCKS};
 use maybenot_link::constants::STATE_END;
 use maybenot_link::event::Event;
@@ -30,7 +30,7 @@ impl Sides {
         let tables = Tables::new(&machines).expect("valid machines");
         let tapes = Rc::new(Tapes { chances: vec![0.5; count], values: Vec::new() });
         let (ours, _) = Framework::open_with(tables, 0.5, 0.5, 0, &tapes.values).expect("opens");
-        Sides { ours, reference: reference::open(&machines, &tapes), tapes }
+        Sides { ours, reference: reference::open(&machines, Tape::new(&tapes)), tapes }
     }
 
     fn end_all(&mut self) {

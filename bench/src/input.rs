@@ -8,16 +8,19 @@ use maybenot_link::state::{State, Trans};
 use maybenot_link::{Machine, MachineId, Timer, TriggerEvent};
 use random::Plain as Random;
 
-/// Constant or drawn outside, so that every draw fits.
-fn dist(random: &mut Random) -> Dist {
+/// Makes the distributions of machines.
+type Dists<'a> = &'a dyn Fn(&mut Random) -> Dist;
+
+/// Constant or of this type, with a start and a max or without.
+pub fn dist(random: &mut Random, drawn: DistType) -> Dist {
     match random.below(3) {
         0 => Dist::constant(1.0 + random.below(50) as f64),
-        1 => Dist::new(DistType::Normal { mean: 0.0, stdev: 0.0 }, 0.0, 0.0),
-        _ => Dist::new(DistType::Normal { mean: 0.0, stdev: 0.0 }, 2.5, 60.0),
+        1 => Dist::new(drawn, 0.0, 0.0),
+        _ => Dist::new(drawn, 2.5, 60.0),
     }
 }
 
-fn action(random: &mut Random) -> Option<Action> {
+fn action(random: &mut Random, dist: Dists) -> Option<Action> {
     let (bypass, replace) = (random.below(2) == 0, random.below(2) == 0);
     let limit = (random.below(2) == 0).then(|| dist(random));
     match random.below(10) {
@@ -32,7 +35,7 @@ fn action(random: &mut Random) -> Option<Action> {
     }
 }
 
-fn counter(random: &mut Random) -> Option<Counter> {
+fn counter(random: &mut Random, dist: Dists) -> Option<Counter> {
     match random.below(6) {
         0 => Some(Counter::new(Operation::Decrement)),
         1 => Some(Counter::new_dist(Operation::Set, dist(random))),
@@ -42,7 +45,7 @@ fn counter(random: &mut Random) -> Option<Counter> {
 }
 
 /// A state that goes to one of two states on every event but Signal.
-fn state(random: &mut Random, states: usize) -> State {
+fn state(random: &mut Random, states: usize, dist: Dists) -> State {
     let row = |event: Event| {
         let first = random.below(states);
         let mut row = vec![Trans(first, 0.5)];
@@ -54,16 +57,22 @@ fn state(random: &mut Random, states: usize) -> State {
     let rows: Vec<_> =
         Event::ALL.into_iter().filter(|event| *event != Event::Signal).map(row).collect();
     let mut state = State::new(rows);
-    state.action = action(random);
-    state.counter = (counter(random), counter(random));
+    state.action = action(random, dist);
+    state.counter = (counter(random, dist), counter(random, dist));
     state
 }
 
+/// Machines whose distributions are drawn outside, so that every draw fits.
 pub fn machines(count: usize, states: usize) -> Vec<Machine> {
+    let outside = DistType::Normal { mean: 0.0, stdev: 0.0 };
+    machines_with(count, states, &|random| dist(random, outside))
+}
+
+pub fn machines_with(count: usize, states: usize, dist: Dists) -> Vec<Machine> {
     let mut random = Random::new(1000 * count as u64 + states as u64);
     (0..count)
         .map(|_| {
-            let states = (0..states).map(|_| state(&mut random, states)).collect();
+            let states = (0..states).map(|_| state(&mut random, states, dist)).collect();
             Machine::new(10, 0.75, 1000, 0.75, states).expect("a valid machine")
         })
         .collect()
@@ -87,6 +96,7 @@ pub fn events(random: &mut Random, count: usize, machines: usize) -> Vec<Trigger
     (0..count).map(|_| event(random)).collect()
 }
 
+#[derive(Default)]
 pub struct Tapes {
     pub chances: Vec<f32>,
     pub values: Vec<f64>,

@@ -2,8 +2,9 @@
 //!
 //! `cargo run --release` prints the tables. With MACHINES STATES EVENTS SIDE BATCHES after `--` it
 //! runs one side (`ours`, `rust` or `check`) of one case, for a profiler. `-- sheets` times the sheets'
-//! writer and reader, `-- due` the due list, `-- ended` the question whether all machines have ended.
-//! Built with another archive, `-- other` times it beside the present one.
+//! writer and reader, `-- due` the due list, `-- ended` the question whether all machines have ended,
+//! `-- words` batches from raw words beside those with two tapes. Built with another archive, `-- other`
+//! times it beside the present one.
 
 mod case;
 mod clock;
@@ -14,6 +15,7 @@ mod input;
 mod other;
 mod reference;
 mod sheet;
+mod words;
 
 use case::Case;
 use maybenot_link::Tables;
@@ -223,6 +225,9 @@ fn main() {
     }
     if args == ["ended"] {
         return ended::compare();
+    }
+    if args == ["words"] {
+        return words::compare();
     }
     if args == ["other"] {
         #[cfg(other)]

@@ -45,11 +45,11 @@ impl RngCore for Tape {
     }
 }
 
-pub type Reference = Framework<Rc<[Machine]>, Tape, Micros>;
+pub type Reference<R = Tape> = Framework<Rc<[Machine]>, R, Micros>;
 
-pub fn open(machines: &[link::Machine], tapes: &Rc<Tapes>) -> Reference {
+pub fn open<R: RngCore>(machines: &[link::Machine], draws: R) -> Reference<R> {
     let machines: Rc<[Machine]> = machines.iter().map(machine_of).collect();
-    let opened = Framework::new(machines, 0.5, 0.5, Micros(0), Tape::new(tapes));
+    let opened = Framework::new(machines, 0.5, 0.5, Micros(0), draws);
     opened.unwrap_or_else(|_| panic!("the Rust refuses the machines"))
 }
 

@@ -44,7 +44,7 @@ check_compilers() {
   for compiler in gcc clang; do ! command -v $compiler > /dev/null || check_compiler $compiler -std=c11; done
   for compiler in g++ clang++; do ! command -v $compiler > /dev/null || check_compiler $compiler -std=c++11 -xc++; done
   [ -n "$tried" ] || check_compiler cc -std=c11
-  echo "bindings/c: the worked example, refused calls, helpers, ended machines, due lists, sheets and the example sender are as they should be ($tried)"
+  echo "bindings/c: the worked example, refused calls, helpers, draws from words, ended machines, due lists, sheets and the example sender are as they should be ($tried)"
 }
 
 # must_not_link FLAGS: test.c with a header of another version

@@ -60,6 +60,7 @@ static void print_codes(void) {
     NUMBER(MAYBENOT_COUNTER_SET);
     NUMBER(MAYBENOT_DRAWS_USED_UP);
     NUMBER(MAYBENOT_DRAW_OUT_OF_RANGE);
+    NUMBER(MAYBENOT_DRAWN_OUTSIDE);
     NUMBER(MAYBENOT_MACHINE_KIND);
     NUMBER(MAYBENOT_STATE_KIND);
     NUMBER(MAYBENOT_TRANSITION_KIND);
@@ -108,6 +109,14 @@ static void print_answers(void) {
     FIELD(maybenot_reply, actions);
     FIELD(maybenot_reply, chance_used);
     FIELD(maybenot_reply, value_used);
+    STRUCT(maybenot_opened_words);
+    FIELD(maybenot_opened_words, refusal);
+    FIELD(maybenot_opened_words, words_used);
+    FIELD(maybenot_opened_words, framework);
+    STRUCT(maybenot_reply_words);
+    FIELD(maybenot_reply_words, refusal);
+    FIELD(maybenot_reply_words, actions);
+    FIELD(maybenot_reply_words, words_used);
     STRUCT(maybenot_sheet_rows);
     FIELD(maybenot_sheet_rows, refusal);
     FIELD(maybenot_sheet_rows, machines);

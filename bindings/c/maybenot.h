@@ -136,7 +136,7 @@ enum {
 enum maybenot_dist {
     MAYBENOT_DIST_ABSENT = 0,
     MAYBENOT_DIST_UNIFORM = 1, /* a value draw from low to below high; none where low = high */
-    MAYBENOT_DIST_OUTSIDE = 2  /* any other distribution: the sender draws from it, and any value draw is taken as it is */
+    MAYBENOT_DIST_OUTSIDE = 2  /* any other: the sender draws from it, and any value is taken as it is; not with words (24) */
 };
 
 /* Words of a counter. Without copy and distribution it changes by 1. */
@@ -220,7 +220,8 @@ enum { MAYBENOT_FLAG_BYPASS = 1, MAYBENOT_FLAG_REPLACE = 2 };
 
 enum maybenot_timer { MAYBENOT_TIMER_ACTION = 0, MAYBENOT_TIMER_INTERNAL = 1, MAYBENOT_TIMER_ALL = 2 };
 
-/* ---- Refusals: why a call was refused, in the order in which they are looked for but for 16 and 17, which come last. */
+/* ---- Refusals: why a call was refused, in the order in which they are looked for but for 16 and 17, which come last, and 24,
+ * which comes behind 15. */
 enum maybenot_refusal {
     MAYBENOT_ACCEPTED = 0,
     MAYBENOT_FRAMEWORK_PADDING_FRACTION = 1,
@@ -244,7 +245,8 @@ enum maybenot_refusal {
     MAYBENOT_EVENT_LIST = 19,
     MAYBENOT_OUTPUT_SIZE = 20,
     MAYBENOT_SHEET_FORM = 22, /* 21 is not this library's */
-    MAYBENOT_SHEET_ROOM = 23
+    MAYBENOT_SHEET_ROOM = 23,
+    MAYBENOT_DRAWN_OUTSIDE = 24 /* with words alone */
 };
 
 /* A refusal in words. */
@@ -273,12 +275,13 @@ static inline const char *maybenot_refusal_text(uint64_t refusal) {
     case 20: return "the output is shorter than a row for each machine, or than the rows to be listed";
     case 22: return "a line of the sheet is malformed or misplaced";
     case 23: return "a lent table or the lent sheet is too small";
+    case 24: return "a used distribution is drawn outside, and draws from words are Uniform alone";
     default: return "a refusal that this version of the header does not know";
     }
 }
 
-/* ---- The framework: kept by the sender, written by maybenot_batch alone. It may be copied, and stored as it is for a program
- * of the same version of the interface. */
+/* ---- The framework: kept by the sender, written by maybenot_batch and maybenot_batch_words alone. It may be copied, and stored
+ * as it is for a program of the same version of the interface. */
 typedef struct maybenot_machine_runtime {
     uint64_t current_state; /* MAYBENOT_STATE_END: ended */
     uint64_t state_limit;
@@ -321,6 +324,18 @@ typedef struct maybenot_reply {
     uint64_t value_used;
 } maybenot_reply;
 
+typedef struct maybenot_opened_words {
+    uint64_t refusal;    /* enum maybenot_refusal; look at it before the rest */
+    uint64_t words_used; /* every word that was tried, from the front */
+    maybenot_framework framework;
+} maybenot_opened_words;
+
+typedef struct maybenot_reply_words {
+    uint64_t refusal;    /* enum maybenot_refusal; look at it before the rest */
+    uint64_t actions;    /* how many rows were written */
+    uint64_t words_used; /* every word that was tried, from the front */
+} maybenot_reply_words;
+
 typedef struct maybenot_sheet_rows {
     uint64_t refusal;  /* enum maybenot_refusal; look at it before the rest */
     uint64_t machines; /* how many rows were read into each table */
@@ -345,9 +360,16 @@ typedef struct maybenot_due {
  * anything else that is lent, and nobody else may write or read it during the call; what stands behind the part that was
  * written stays. Pointers are aligned as their types are.
  *
- * Draws: the library draws no random numbers. `chances` and `values` are tapes of the sender's draws, read from the front: a
- * chance draw c is 0 <= c < 1, a value draw is of the distribution that asks for it. The answer says how many of each were
- * taken: the next call starts behind these. A draw that was taken must not be lent again, or what is padded can be foretold. */
+ * Draws: the library draws no random numbers. They are lent in one of two ways:
+ *   words    maybenot_opening_words, maybenot_batch_words: one tape of random words, which serves every Uniform. The library
+ *            works the draws out. The first choice, where no distribution is drawn outside (24)
+ *   tapes    maybenot_opening, maybenot_batch: `chances` and `values`, draws that the sender has worked out. A chance draw c is
+ *            0 <= c < 1, a value draw is of the distribution that asks for it
+ * Each tape is read from the front. The answer says how much was taken of each: the next call starts behind that. A draw or word
+ * that was taken must not be lent again, or what is padded can be foretold. A framework takes calls of both ways in any order.
+ *
+ * From words: a chance is the top 24 bits of a word over 2^24. A Uniform value is low + (high - low) * u with u the top 53 bits
+ * over 2^53, each operation rounded; where that is high or more the next word is tried; low = high takes no word. */
 
 /* Opens a framework with the machines of these tables. Takes a value draw for the limit of each start state that has one. */
 maybenot_opened maybenot_opening(
@@ -369,6 +391,33 @@ maybenot_reply maybenot_batch(
     const uint64_t *events, size_t events_len,
     const float *chances, size_t chances_len,
     const double *values, size_t values_len,
+    uint64_t *out, size_t out_len);
+
+/* Opens a framework, with the limits drawn from words: a word for each start state is enough where none is tried in vain.
+ *   16   a needed draw finds no word that serves before the tape's end: lend the same words and more
+ *   24   a used distribution is drawn outside, a counter's under copy too; looked for behind the tables, before any draw
+ *   the other refusals are those of maybenot_opening; 17 is never given */
+maybenot_opened_words maybenot_opening_words(
+    double max_padding_frac, double max_blocking_frac, uint64_t time,
+    const uint64_t *machines, size_t machines_len,
+    const uint64_t *states, size_t states_len,
+    const uint64_t *transitions, size_t transitions_len,
+    const uint64_t *words, size_t words_len);
+
+/* Runs a batch with draws from words: the answer, the framework and the output are those of maybenot_batch on the draws so
+ * worked out. For n events and M machines, six times n * (M + 1) + M + 2 words are enough (counted from the steps, not proved)
+ * where none is tried in vain. Few are, but half of them where a high is the next double after its low: on 16 lend more.
+ *   16   a needed draw finds no word that serves before the tape's end: lend the same words and more
+ *   24   a used distribution is drawn outside, a counter's under copy too; looked for behind the tables, before 18
+ *   the other refusals are those of maybenot_batch; 17 is never given */
+maybenot_reply_words maybenot_batch_words(
+    maybenot_framework *framework,
+    const uint64_t *machines, size_t machines_len,
+    const uint64_t *states, size_t states_len,
+    const uint64_t *transitions, size_t transitions_len,
+    uint64_t time,
+    const uint64_t *events, size_t events_len,
+    const uint64_t *words, size_t words_len,
     uint64_t *out, size_t out_len);
 
 /* Whether every machine has ended; true with no machines. It reads `ended` and `machines` alone, whatever framework is lent, and
@@ -440,12 +489,13 @@ maybenot_sheet_bytes maybenot_sheet_write(
  * timers from the front of a list makes it with maybenot_due_list.
  *
  * After a refused opening or batch nothing has happened: keep the events, and
- *   16               try again with longer tapes: the same draws and more behind them
+ *   16               try again with longer tapes: the same draws or words, and more behind them
  *   17               the draw that was asked for was out of its range: try again with fresh draws, and mend their source
  *   18               give up: the framework was written by someone else, or the tables are others; open anew
  *   19               mend the list: the event that is not one, the odd word
  *   20               lend a longer output
  *   1 to 15          give up: the fractions or the tables are wrong, and will be refused again
+ *   24               lend two tapes in place of words, always: the tables will be refused again
  * Dropping events instead is safe for the budgets only if none of them is a PaddingSent. */
 
 /* ---- Helpers to write tables and events */

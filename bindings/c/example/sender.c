@@ -1,4 +1,4 @@
-/* A sender in simulated time: one machine, normal packets at random, timers, and draws from a seed. Prints a line for each
+/* A sender in simulated time: one machine, normal packets at random, timers, and random words from a seed. Prints a line for each
  * action and, at the end, the budget used; fails where it is overdrawn.
  *
  *     sender [seed] [milliseconds] */
@@ -12,12 +12,11 @@
 #define LENGTH(a) (sizeof(a) / sizeof((a)[0]))
 
 enum { WAITS, PADS, RESTS, STATES };
-enum { MOST_EVENTS = 8, CHANCES = MOST_EVENTS * 2 + 3, VALUES = 5 * CHANCES }; /* enough for one machine, see maybenot_batch */
+enum { MOST_EVENTS = 8, MOST_WORDS = 6 * (MOST_EVENTS * 2 + 3) }; /* enough for one machine, see maybenot_batch_words */
 
 static const uint64_t idle = UINT64_MAX; /* of a timer */
 static const uint64_t allowed_padding = 5;
 static const double machine_frac = 0.4, framework_frac = 0.5;
-static const double shortest = 100.0, longest = 2000.0; /* of a timeout: all value draws are of this range */
 
 static uint64_t machines[MAYBENOT_MACHINE_WORDS];
 static uint64_t states[STATES * MAYBENOT_STATE_WORDS];
@@ -32,12 +31,11 @@ typedef struct sender {
     uint64_t padding_due, timer_due;
     uint64_t events[MOST_EVENTS * MAYBENOT_EVENT_WORDS]; /* what no accepted batch has taken yet */
     size_t events_len;
-    float chances[CHANCES]; /* draws that no accepted call has taken yet */
-    double values[VALUES];
+    uint64_t words[MOST_WORDS]; /* random words that no accepted call has taken yet */
     uint64_t normal, padding; /* what the budgets count */
 } sender;
 
-/* A normal packet starts a burst of at most four padding packets, and a timer ends the rest after it. */
+/* A normal packet starts a burst of two to six padding packets, and a timer ends the rest after it. */
 static void put_tables(void) {
     uint64_t *pads = states + PADS * MAYBENOT_STATE_WORDS, *rests = states + RESTS * MAYBENOT_STATE_WORDS;
     maybenot_put_machine(machines, allowed_padding, machine_frac, 0, 0.0, 0, STATES);
@@ -46,8 +44,8 @@ static void put_tables(void) {
     maybenot_put_transition(transitions, PADS, 1.0f);
 
     maybenot_put_action(pads, MAYBENOT_SEND_PADDING, 0);
-    maybenot_put_uniform(pads + MAYBENOT_STATE_AT_TIMEOUT, shortest, longest);
-    maybenot_put_constant(pads + MAYBENOT_STATE_AT_LIMIT, 4.0);
+    maybenot_put_uniform(pads + MAYBENOT_STATE_AT_TIMEOUT, 100.0, 2000.0);
+    maybenot_put_uniform(pads + MAYBENOT_STATE_AT_LIMIT, 2.0, 6.0);
     maybenot_put_pair(pads, MAYBENOT_ON_NORMAL_SENT, 1, 1);
     maybenot_put_transition(transitions + 2, PADS, 0.5f);
     maybenot_put_pair(pads, MAYBENOT_ON_PADDING_SENT, 2, 1);
@@ -68,24 +66,11 @@ static uint64_t word(sender *s) {
     return z ^ (z >> 31);
 }
 
-static void draw_chances(sender *s, size_t from) {
-    for (size_t k = from; k < CHANCES; k++)
-        s->chances[k] = (float)(word(s) >> 40) / 16777216.0f;
-}
-
-static void draw_values(sender *s, size_t from) {
-    for (size_t k = from; k < VALUES; k++) {
-        double value = shortest + (longest - shortest) * ((double)(word(s) >> 11) / 9007199254740992.0);
-        s->values[k] = value < longest ? value : shortest;
-    }
-}
-
-/* Draws that were taken are not lent again. */
-static void drop_draws(sender *s, uint64_t chances, uint64_t values) {
-    memmove(s->chances, s->chances + chances, (CHANCES - chances) * sizeof s->chances[0]);
-    draw_chances(s, CHANCES - chances);
-    memmove(s->values, s->values + values, (VALUES - values) * sizeof s->values[0]);
-    draw_values(s, VALUES - values);
+/* Words that were taken are not lent again. */
+static void drop_words(sender *s, uint64_t taken) {
+    memmove(s->words, s->words + taken, (MOST_WORDS - taken) * sizeof s->words[0]);
+    for (size_t k = MOST_WORDS - taken; k < MOST_WORDS; k++)
+        s->words[k] = word(s);
 }
 
 static void happened(sender *s, enum maybenot_event kind) {
@@ -122,32 +107,32 @@ static void arm(sender *s, const uint64_t *rows, size_t rows_len) {
 }
 
 static bool open_framework(sender *s) {
-    maybenot_opened opened = maybenot_opening(framework_frac, 0.0, s->time, TABLES, s->values, VALUES);
+    maybenot_opened_words opened = maybenot_opening_words(framework_frac, 0.0, s->time, TABLES, s->words, LENGTH(s->words));
     if (opened.refusal != MAYBENOT_ACCEPTED) {
         fprintf(stderr, "the opening: %s\n", maybenot_refusal_text(opened.refusal));
         return false;
     }
     s->framework = opened.framework;
-    drop_draws(s, opened.chance_used, opened.value_used);
+    drop_words(s, opened.words_used);
     return true;
 }
 
 /* Hands over what happened, and acts on the answer. The events stay in the list until a batch has taken them. */
 static bool batch(sender *s) {
-    maybenot_reply r;
+    maybenot_reply_words r;
     for (int tries = 0; tries < 3; tries++) {
         uint64_t out[MAYBENOT_ACTION_WORDS]; /* one machine, so at most one row */
-        r = maybenot_batch(&s->framework, TABLES, s->time, s->events, s->events_len, s->chances, CHANCES, s->values, VALUES,
-                           out, LENGTH(out));
+        r = maybenot_batch_words(&s->framework, TABLES, s->time, s->events, s->events_len, s->words, LENGTH(s->words), out,
+                                 LENGTH(out));
         if (r.refusal == MAYBENOT_ACCEPTED) {
             s->events_len = 0;
-            drop_draws(s, r.chance_used, r.value_used);
+            drop_words(s, r.words_used);
             arm(s, out, r.actions * MAYBENOT_ACTION_WORDS);
             return true;
         }
-        if (r.refusal != MAYBENOT_DRAWS_USED_UP && r.refusal != MAYBENOT_DRAW_OUT_OF_RANGE)
+        if (r.refusal != MAYBENOT_DRAWS_USED_UP)
             break; /* the same again would be refused again */
-        drop_draws(s, CHANCES, VALUES);
+        drop_words(s, LENGTH(s->words)); /* too many were tried in vain */
     }
     fprintf(stderr, "a batch: %s\n", maybenot_refusal_text(r.refusal));
     return false;
@@ -201,7 +186,7 @@ int main(int argc, char **argv) {
     uint64_t milliseconds = argc > 2 ? strtoull(argv[2], NULL, 10) : 100;
     s.padding_due = s.timer_due = idle;
     put_tables();
-    drop_draws(&s, CHANCES, VALUES);
+    drop_words(&s, MOST_WORDS);
     if (!open_framework(&s) || !run(&s, 1000 * milliseconds))
         return 1;
     return within_budget(&s) ? 0 : 1;

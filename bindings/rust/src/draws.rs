@@ -1,10 +1,13 @@
 //! The sender's side of the draws.
 
 use crate::dist::{Dist, DistType};
-use crate::refusal::{BadDraw, Refused};
+use crate::refusal::{BadDraw, Refusal, Refused};
 use crate::sampling;
 
 /// Where the draws come from: the sender's own random numbers. The library draws none.
+///
+/// Tables in which every distribution is a Uniform need none of this: a function that gives random words
+/// does there ([`Framework::trigger_events_words`](crate::Framework::trigger_events_words)).
 ///
 /// A generator of random words is enough. The defaults work out every draw from words, and none of
 /// these is ever refused, whatever the words are:
@@ -68,6 +71,40 @@ pub trait Draws {
     fn value(&mut self, dist: &DistType) -> f64 {
         sampling::value(dist, &mut || self.word())
     }
+
+    /// Whether the library may work the draws out of the words itself, by the formulas of
+    /// [`trigger_events_words`](crate::Framework::trigger_events_words), where the tables have only
+    /// Uniforms. `chance` and `value` are then not asked. False by default; [`RawWords`] says true.
+    fn raw(&self) -> bool {
+        false
+    }
+}
+
+/// A function that gives random words, as a source of draws: with tables that have only Uniforms the
+/// library works the draws out, one call of it for a batch.
+///
+/// ```
+/// use maybenot_link::{Draws, RawWords};
+///
+/// let mut next = 0u64;
+/// let mut source = RawWords(|| {
+///     next = next.wrapping_add(0x9e37_79b9_7f4a_7c15);
+///     next
+/// });
+/// assert!(source.raw());
+/// assert_eq!(source.word(), 0x9e37_79b9_7f4a_7c15);
+/// ```
+#[derive(Clone, Debug)]
+pub struct RawWords<F>(pub F);
+
+impl<F: FnMut() -> u64> Draws for RawWords<F> {
+    fn word(&mut self) -> u64 {
+        (self.0)()
+    }
+
+    fn raw(&self) -> bool {
+        true
+    }
 }
 
 impl<D: Draws + ?Sized> Draws for &mut D {
@@ -81,6 +118,10 @@ impl<D: Draws + ?Sized> Draws for &mut D {
 
     fn value(&mut self, dist: &DistType) -> f64 {
         (**self).value(dist)
+    }
+
+    fn raw(&self) -> bool {
+        (**self).raw()
     }
 }
 
@@ -103,6 +144,49 @@ pub(crate) fn checked(dist: &Dist, drawn: f64) -> Result<f64, Refused> {
 pub(crate) struct Store {
     pub(crate) chances: Vec<f32>,
     pub(crate) values: Vec<f64>,
+    pub(crate) words: Tape,
+}
+
+/// Words that were taken ahead from a source, and that no call has used yet.
+#[derive(Debug, Default)]
+pub(crate) struct Tape(Vec<u64>);
+
+impl Tape {
+    pub(crate) fn len(&self) -> usize {
+        self.0.len()
+    }
+
+    /// Makes a call with a word for each of so many draws, and again with twice as many where these are
+    /// used up, until a source that does no better is given up. `call` gives the refusal or 0, the words
+    /// used, and what is answered.
+    pub(crate) fn lend<A>(
+        &mut self,
+        draws: usize,
+        mut source: impl FnMut() -> u64,
+        mut call: impl FnMut(&[u64]) -> (u64, u64, A),
+    ) -> Result<A, Refused> {
+        let mut wanted = draws;
+        loop {
+            while self.0.len() < wanted {
+                self.0.push(source());
+            }
+            let (refusal, used, answer) = call(&self.0);
+            match Refusal::from_number(refusal) {
+                None => {
+                    self.0.drain(..used as usize);
+                    return Ok(answer);
+                }
+                Some(Refusal::DrawsUsedUp) if self.0.len() < sampling::TRIES * draws => {
+                    wanted = 2 * self.0.len();
+                }
+                Some(Refusal::DrawsUsedUp) => {
+                    self.0.clear();
+                    return Err(Refusal::DrawsUsedUp.into());
+                }
+                Some(refusal) => return Err(refusal.into()),
+            }
+        }
+    }
 }
 
 impl Store {

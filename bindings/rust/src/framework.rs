@@ -10,6 +10,8 @@ use crate::tables::{Drawing, Tables};
 use std::borrow::Borrow;
 use std::fmt;
 
+mod words;
+
 /// The number of a machine in a framework.
 #[derive(Debug, Clone, Copy, PartialEq, Eq, Hash, PartialOrd, Ord)]
 pub struct MachineId(usize);
@@ -53,13 +55,13 @@ impl fmt::Display for Used {
 /// batch gets the framework that the last one returned and is lent the opening's tables. The tables
 /// may be owned, borrowed or shared: [`Tables`], `&Tables`, `Arc<Tables>`.
 ///
-/// A clone goes on from the same state, with no draws in store: its draws are those of the source that
-/// it is lent.
+/// A clone goes on from the same state, with no draws and no words in store: its draws are those of the
+/// source that it is lent.
 #[derive(Debug)]
 pub struct Framework<T: Borrow<Tables> = Tables> {
     state: sys::Framework,
     tables: T,
-    /// For `trigger_events`.
+    /// For `trigger_events` and `trigger_events_words`.
     store: Store,
     /// The state table to ask with; empty until it is needed.
     table: Vec<u64>,
@@ -143,6 +145,10 @@ impl<T: Borrow<Tables>> Framework<T> {
         mut draws: impl Draws,
     ) -> Result<Self, Refused> {
         let lent = tables.borrow();
+        if draws.raw() && !lent.draws_outside() {
+            let words = || draws.word();
+            return Self::open_words(tables, max_padding_frac, max_blocking_frac, time, words);
+        }
         let opening = |words: Words<'_>, values: &[f64]| {
             sys::opening(max_padding_frac, max_blocking_frac, time, words, values)
         };
@@ -188,9 +194,9 @@ impl<T: Borrow<Tables>> Framework<T> {
     /// of ended machines is wrong ([`Refusal::FrameworkMisfit`]), or where nobody has validated the
     /// tables and they are bad.
     ///
-    /// The state alone is resumed. Draws that were in store are not part of it, nor are the sender's
-    /// timers and its blocking. That a state fits does not say that the library wrote it: the budgets
-    /// that are proved speak of a state that nobody else wrote.
+    /// The state alone is resumed. Draws and words that were in store are not part of it, nor are the
+    /// sender's timers and its blocking. That a state fits does not say that the library wrote it: the
+    /// budgets that are proved speak of a state that nobody else wrote.
     ///
     /// ```
     /// # use maybenot_link::{action::Action, dist::Dist, event::Event, state::{State, Trans}};
@@ -266,6 +272,11 @@ impl<T: Borrow<Tables>> Framework<T> {
     /// without an action in the list keeps what it has. To arm timers from the front, take them
     /// [in due order](crate::DueOrder::in_due_order).
     ///
+    /// With a source of raw words ([`RawWords`](crate::RawWords)) and tables of Uniforms alone this is
+    /// [`trigger_events_words`](Self::trigger_events_words): one call of the library in any case. Any
+    /// other source is asked for its draws; its words are used in another order then, so a seeded one
+    /// gives other draws.
+    ///
     /// The draws come from `draws`. Chances are drawn ahead, as many as the call may take, and what is
     /// left of them is kept for the next call. Values:
     ///
@@ -285,6 +296,12 @@ impl<T: Borrow<Tables>> Framework<T> {
         mut draws: impl Draws,
     ) -> Result<&[TriggerAction], Refused> {
         self.put_events(events);
+        if draws.raw() {
+            match self.run_words(time, || draws.word()) {
+                Err(refused) if refused.refusal == Refusal::DrawnOutside => {}
+                ran => return ran.map(|()| &self.actions[..]),
+            }
+        }
         let tables = self.tables.borrow();
         let most = most_draws(tables, events.len());
         self.store.fill_chances(most.chances, &mut draws)?;

@@ -5,8 +5,7 @@
 //! [`TriggerAction`] says, in the order of machines or as they fall due ([`DueOrder`]). What differs:
 //!
 //! - times, timeouts and durations are `u64` microseconds;
-//! - random numbers are the sender's: it lends them as two tapes ([`Framework::batch`]) or as a source
-//!   ([`Draws`], [`Framework::trigger_events`]);
+//! - random numbers are the sender's, which has three ways to lend them (below);
 //! - a call that does not fit is refused with a number and changes nothing ([`Refused`]).
 //!
 //! # The smallest machine that pads
@@ -43,10 +42,50 @@
 //! # Ok::<(), Box<dyn std::error::Error>>(())
 //! ```
 //!
-//! # Draws from a source
+//! # Draws
 //!
-//! The source here is a small generator; a sender puts its own behind the same function. [`Draws`] says
-//! how draws are worked out from its words, and how a sender with rand_distr takes its own.
+//! | the tables have | the sender lends | calls |
+//! |---|---|---|
+//! | Uniforms alone | random words, by a function `FnMut() -> u64`: the first choice | [`Framework::open_words`], [`trigger_events_words`](Framework::trigger_events_words); as a source, [`RawWords`], the calls of the next line |
+//! | other distributions too | a source of draws, [`Draws`] | [`Framework::open`], [`trigger_events`](Framework::trigger_events) |
+//! | any, and the sender knows which draws come | tapes of its own | [`Framework::open_with`], [`batch`](Framework::batch); of words [`open_with_words`](Framework::open_with_words), [`batch_words`](Framework::batch_words) |
+//!
+//! [`Tables::draws_outside`] tells whether there are others than Uniforms. With words the library works
+//! the draws out, and a batch is one call of it:
+//!
+//! ```
+//! # use maybenot_link::action::Action;
+//! # use maybenot_link::dist::Dist;
+//! # use maybenot_link::event::Event;
+//! # use maybenot_link::state::{State, Trans};
+//! # use maybenot_link::{Framework, Machine, Tables, TriggerEvent};
+//! # use std::hash::{BuildHasher, BuildHasherDefault, DefaultHasher};
+//! // pads after 10 to 20 microseconds
+//! let state = State::new([(Event::NormalSent, vec![Trans(0, 1.0)])]).with_action(
+//!     Action::SendPadding {
+//!         bypass: false,
+//!         replace: false,
+//!         timeout: Dist::uniform(10.0, 20.0),
+//!         limit: None,
+//!     },
+//! );
+//! let tables = Tables::new(&[Machine::new(0, 0.0, 0, 0.0, vec![state])?])?;
+//!
+//! # let mut count = 0_u64;
+//! # let mut next_word = || {
+//! #     count += 1;
+//! #     BuildHasherDefault::<DefaultHasher>::default().hash_one(count)
+//! # };
+//! let mut words = || next_word(); // of the terminal's own source
+//! let mut framework = Framework::open_words(&tables, 0.0, 0.0, 0, &mut words)?;
+//! let actions = framework.trigger_events_words(&[TriggerEvent::NormalSent], 5, &mut words)?;
+//! assert_eq!(actions.len(), 1);
+//! # Ok::<(), Box<dyn std::error::Error>>(())
+//! ```
+//!
+//! Other distributions are drawn by a source, here a small generator; a sender puts its own behind the
+//! same function. [`Draws`] says how draws are worked out from its words, and how a sender with
+//! rand_distr takes its own.
 //!
 //! ```
 //! use maybenot_link::action::Action;
@@ -118,7 +157,7 @@ pub mod sys;
 pub mod time;
 
 pub use action::{Timer, TriggerAction};
-pub use draws::Draws;
+pub use draws::{Draws, RawWords};
 pub use due_order::{due_list, DueOrder, InDueOrder};
 pub use event::TriggerEvent;
 pub use framework::{Framework, MachineId, Used};

@@ -33,7 +33,7 @@ macro_rules! refusals {
             }
 
             /// Whether the draws are what was refused (16, 17): the same call may be tried again with
-            /// fresh ones.
+            /// fresh ones, after 16 also with more behind the same.
             pub fn is_for_draws(self) -> bool {
                 matches!(self, Refusal::DrawsUsedUp | Refusal::DrawOutOfRange)
             }
@@ -71,6 +71,7 @@ refusals! {
     20 OutputSize "the output is shorter than a row for each machine, or than the rows to be listed";
     22 SheetForm "a line of the sheet is malformed or misplaced";
     23 SheetRoom "a lent table or the lent sheet is too small";
+    24 DrawnOutside "a used distribution is drawn outside, and draws from words are Uniform alone";
 }
 
 impl fmt::Display for Refusal {

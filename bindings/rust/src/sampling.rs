@@ -10,7 +10,7 @@ use std::f64::consts::TAU;
 type Words<'a> = dyn FnMut() -> u64 + 'a;
 
 /// At most so many tries. A try is turned down in half of the cases at worst.
-const TRIES: usize = 64;
+pub(crate) const TRIES: usize = 64;
 
 /// Up to so many trials are drawn one by one.
 const FEW_TRIALS: u64 = 32;

@@ -120,6 +120,30 @@ pub struct Reply {
     pub value_used: u64,
 }
 
+/// The answer of an opening from words.
+#[repr(C)]
+#[derive(Debug, Clone, Copy, PartialEq)]
+pub struct OpenedWords {
+    /// The refusal, or 0.
+    pub refusal: u64,
+    /// How many words were taken: every one that was tried.
+    pub words_used: u64,
+    /// The framework; all 0 where the call was refused.
+    pub framework: Framework,
+}
+
+/// The answer of a batch from words.
+#[repr(C)]
+#[derive(Debug, Clone, Copy, PartialEq, Eq, Hash)]
+pub struct ReplyWords {
+    /// The refusal, or 0.
+    pub refusal: u64,
+    /// How many rows were written.
+    pub actions: u64,
+    /// How many words were taken: every one that was tried.
+    pub words_used: u64,
+}
+
 /// The answer of a sheet's reader.
 #[repr(C)]
 #[derive(Debug, Clone, Copy, PartialEq, Eq, Hash)]
@@ -212,6 +236,16 @@ const _: () = {
     assert!(offset_of!(Reply, chance_used) == 16);
     assert!(offset_of!(Reply, value_used) == 24);
 
+    assert!(size_of::<OpenedWords>() == 16 + size_of::<Framework>());
+    assert!(offset_of!(OpenedWords, refusal) == 0);
+    assert!(offset_of!(OpenedWords, words_used) == 8);
+    assert!(offset_of!(OpenedWords, framework) == 16);
+
+    assert!(size_of::<ReplyWords>() == 24);
+    assert!(offset_of!(ReplyWords, refusal) == 0);
+    assert!(offset_of!(ReplyWords, actions) == 8);
+    assert!(offset_of!(ReplyWords, words_used) == 16);
+
     assert!(size_of::<SheetRows>() == 32);
     assert!(offset_of!(SheetRows, refusal) == 0);
     assert!(offset_of!(SheetRows, machines) == 8);
@@ -255,8 +289,24 @@ impl Words<'_> {
     }
 }
 
+/// A function of the archive, called with the tables behind the first arguments.
+macro_rules! with_tables {
+    ($name:ident($($first:expr),*; $tables:expr; $($then:expr),*)) => {
+        c::$name(
+            $($first,)*
+            $tables.machines.as_ptr(),
+            $tables.machines.len(),
+            $tables.states.as_ptr(),
+            $tables.states.len(),
+            $tables.transitions.as_ptr(),
+            $tables.transitions.len(),
+            $($then),*
+        )
+    };
+}
+
 mod c {
-    use super::{Due, Framework, Opened, Reply, SheetBytes, SheetRows};
+    use super::{Due, Framework, Opened, OpenedWords, Reply, ReplyWords, SheetBytes, SheetRows};
 
     extern "C" {
         pub fn maybenot_opening(
@@ -291,6 +341,37 @@ mod c {
             out: *mut u64,
             out_len: usize,
         ) -> Reply;
+
+        pub fn maybenot_opening_words(
+            max_padding_frac: f64,
+            max_blocking_frac: f64,
+            time: u64,
+            machines: *const u64,
+            machines_len: usize,
+            states: *const u64,
+            states_len: usize,
+            transitions: *const u64,
+            transitions_len: usize,
+            words: *const u64,
+            words_len: usize,
+        ) -> OpenedWords;
+
+        pub fn maybenot_batch_words(
+            framework: *mut Framework,
+            machines: *const u64,
+            machines_len: usize,
+            states: *const u64,
+            states_len: usize,
+            transitions: *const u64,
+            transitions_len: usize,
+            time: u64,
+            events: *const u64,
+            events_len: usize,
+            words: *const u64,
+            words_len: usize,
+            out: *mut u64,
+            out_len: usize,
+        ) -> ReplyWords;
 
         pub fn maybenot_all_machines_ended(framework: *const Framework) -> bool;
 
@@ -347,19 +428,10 @@ pub fn opening(
 ) -> Opened {
     // SAFETY: each pointer comes with the length of its slice; the function reads inside these alone.
     unsafe {
-        c::maybenot_opening(
-            max_padding_frac,
-            max_blocking_frac,
-            time,
-            tables.machines.as_ptr(),
-            tables.machines.len(),
-            tables.states.as_ptr(),
-            tables.states.len(),
-            tables.transitions.as_ptr(),
-            tables.transitions.len(),
-            values.as_ptr(),
-            values.len(),
-        )
+        with_tables!(maybenot_opening(
+            max_padding_frac, max_blocking_frac, time; tables;
+            values.as_ptr(), values.len()
+        ))
     }
 }
 
@@ -378,24 +450,51 @@ pub fn batch(
     // SAFETY: each pointer comes with the length of its slice; the function reads inside these alone
     // and writes inside the framework and the output, which are lent to nobody else.
     unsafe {
-        c::maybenot_batch(
-            framework,
-            tables.machines.as_ptr(),
-            tables.machines.len(),
-            tables.states.as_ptr(),
-            tables.states.len(),
-            tables.transitions.as_ptr(),
-            tables.transitions.len(),
-            time,
-            events.as_ptr(),
-            events.len(),
-            chances.as_ptr(),
-            chances.len(),
-            values.as_ptr(),
-            values.len(),
-            out.as_mut_ptr(),
-            out.len(),
-        )
+        with_tables!(maybenot_batch(
+            framework; tables;
+            time, events.as_ptr(), events.len(), chances.as_ptr(), chances.len(), values.as_ptr(),
+            values.len(), out.as_mut_ptr(), out.len()
+        ))
+    }
+}
+
+/// Opens a framework with the machines of these tables, and works its draws out of random words. A
+/// distribution that is drawn outside is refused (24).
+pub fn opening_words(
+    max_padding_frac: f64,
+    max_blocking_frac: f64,
+    time: u64,
+    tables: Words<'_>,
+    words: &[u64],
+) -> OpenedWords {
+    // SAFETY: each pointer comes with the length of its slice; the function reads inside these alone.
+    unsafe {
+        with_tables!(maybenot_opening_words(
+            max_padding_frac, max_blocking_frac, time; tables;
+            words.as_ptr(), words.len()
+        ))
+    }
+}
+
+/// Runs a batch of events and works its draws out of random words: the same as [`batch`] on these draws.
+/// A distribution that is drawn outside is refused (24). A refused call leaves the framework and the
+/// output as they were.
+pub fn batch_words(
+    framework: &mut Framework,
+    tables: Words<'_>,
+    time: u64,
+    events: &[u64],
+    words: &[u64],
+    out: &mut [u64],
+) -> ReplyWords {
+    // SAFETY: each pointer comes with the length of its slice; the function reads inside these alone
+    // and writes inside the framework and the output, which are lent to nobody else.
+    unsafe {
+        with_tables!(maybenot_batch_words(
+            framework; tables;
+            time, events.as_ptr(), events.len(), words.as_ptr(), words.len(), out.as_mut_ptr(),
+            out.len()
+        ))
     }
 }
 
@@ -437,16 +536,10 @@ pub fn sheet_write(tables: Words<'_>, sheet: &mut [u8]) -> SheetBytes {
     // SAFETY: each pointer comes with the length of its slice; the function reads inside these alone
     // and writes inside the sheet, which is lent to nobody else.
     unsafe {
-        c::maybenot_sheet_write(
-            tables.machines.as_ptr(),
-            tables.machines.len(),
-            tables.states.as_ptr(),
-            tables.states.len(),
-            tables.transitions.as_ptr(),
-            tables.transitions.len(),
-            sheet.as_mut_ptr(),
-            sheet.len(),
-        )
+        with_tables!(maybenot_sheet_write(
+            ; tables;
+            sheet.as_mut_ptr(), sheet.len()
+        ))
     }
 }
 

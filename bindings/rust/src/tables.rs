@@ -110,6 +110,14 @@ impl Tables {
         self.machines.len() / MACHINE_WORDS
     }
 
+    /// Whether a distribution that the states use is drawn outside, a counter's under copy too: the calls
+    /// from words refuse such tables ([`Refusal::DrawnOutside`]). The library is asked, and checks the
+    /// tables; false where it refuses these.
+    pub fn draws_outside(&self) -> bool {
+        let opened = sys::opening_words(0.0, 0.0, 0, self.words(), &[]);
+        opened.refusal == Refusal::DrawnOutside.number()
+    }
+
     /// The three tables as they are lent.
     pub fn words(&self) -> Words<'_> {
         Words { machines: &self.machines, states: &self.states, transitions: &self.transitions }

@@ -182,12 +182,12 @@ fn refusals_read_as_in_the_header() {
         assert_eq!(text, format!("{:?};", refusal.to_string().split_once(": ").unwrap().1));
         seen += 1;
     }
-    assert_eq!(seen, 22);
+    assert_eq!(seen, 23);
 }
 
 #[test]
 fn refusals_have_numbers_and_words() {
-    for number in (1..=20).chain(22..=23) {
+    for number in (1..=20).chain(22..=24) {
         let refusal = Refusal::from_number(number).unwrap();
         assert_eq!(refusal.number(), number);
         assert!(refusal.to_string().starts_with(&format!("refused as {number}: ")));

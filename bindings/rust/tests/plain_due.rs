@@ -3,7 +3,7 @@
 
 mod common;
 
-use common::Seen;
+use common::seen::Seen;
 use due::WORDS;
 use maybenot_link::sys;
 use random::Random;

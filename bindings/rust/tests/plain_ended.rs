@@ -3,7 +3,8 @@
 
 mod common;
 
-use common::{events, machines, num_states, plain, word, Random, Seen};
+use common::seen::Seen;
+use common::{events, machines, num_states, overwritten, plain, word, Random};
 use kept::STATE_END as END;
 use maybenot_link::action::Action;
 use maybenot_link::constants::{STATE_END, STATE_SIGNAL};
@@ -309,7 +310,7 @@ const DAMAGES: [(Damage, [&str; 2]); 14] = [
     (places_changed, [NEVER, "machines change places"]),
     (ended_behind, [NEVER, "states behind the last machine"]),
     (signal, ["18 for the signal", "another signal"]),
-    (some_words, ["18 for some words", "some words"]),
+    (|random, it, _| *it = overwritten(random, it), ["18 for some words", "some words"]),
     (all_words, ["18 for all words", "all words"]),
 ];
 
@@ -377,16 +378,6 @@ fn ended_behind(_: &mut Random, it: &mut Framework, num_states: &[u64]) {
 
 fn signal(random: &mut Random, it: &mut Framework, num_states: &[u64]) {
     it.signal_pending = random.below(num_states.len() + 4) as u64;
-}
-
-fn some_words(random: &mut Random, it: &mut Framework, _: &[u64]) {
-    let mut words = it.to_words();
-    for _ in 0..=random.below(3) {
-        // of a machine, or behind the machines
-        let at = [random.below(FRAMEWORK_WORDS), 9 * MAX_MACHINES + random.below(12)];
-        words[at[random.below(2)]] = word(random);
-    }
-    *it = Framework::from_words(words);
 }
 
 /// All words, at times with those that are judged as before.

@@ -28,7 +28,7 @@ ghost use mathlib.Core.Path.{_≡_};
 ghost use mathlib.Core.Bool.{true};
 ghost use Prim.Native.Nat.{_/_};
 ghost use lib.ListN.{length};
-ghost use Rattle.machine.specs.Source.{tapes};
+ghost use Rattle.machine.specs.Words.{lent};
 ghost use Rattle.steps.specs.Events.{each, eventTurn};
 ghost use Rattle.steps.specs.Framework.{sharedFrom, begin, kindsFit};
 ghost use Rattle.steps.specs.declared.Verdict.the-variants.{Refused};
@@ -83,11 +83,12 @@ pub fn run_events(
     events: &[u64],
     chances: &[f32],
     values: &[f64],
+    words: &[u64],
 ) -> Ran
     requires { ⌜ kindsFit (now events) (length (now events) / 2) ≡ true ⌝ }
     ensures is { λ r. ⌜ (
         let T = tables (now (machines .entry)) (now (states .entry)) (now (transitions .entry)) in
-        let D = tapes (now (chances .entry)) (now (values .entry)) in
+        let D = lent (now (chances .entry)) (now (values .entry)) (now (words .entry)) in
         let es = now (events .entry) in
         r ≡ ranFrom (entered fw) (each (eventTurn T D es) (length es / 2) 0 (begin fw time))) ⌝ }
     ensures keeps { λ r. ⌜ r .framework .machines ≡ fw .machines ⌝ }
@@ -115,6 +116,7 @@ pub fn run_events(
                 rows,
                 transitions,
                 chances,
+                words,
                 r.current_state,
                 event_of(kind),
                 place,
@@ -134,7 +136,7 @@ pub fn run_events(
             let fixed = f.fixed;
             let totals = f.totals;
             let read = context_of(machines, m, f.current_time, fixed, totals);
-            let short = short_way(rows, values, read, falls, chosen, counted, s);
+            let short = short_way(rows, values, words, read, falls, chosen, counted, s);
             match short {
                 Short::Elsewhere => {}
                 Short::Kept(d) => {
@@ -161,6 +163,7 @@ pub fn run_events(
                 transitions,
                 chances,
                 values,
+                words,
                 c,
                 chosen,
                 counted,
@@ -172,6 +175,7 @@ pub fn run_events(
                 transitions,
                 chances,
                 values,
+                words,
                 c,
                 falls,
                 went,

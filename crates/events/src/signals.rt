@@ -12,7 +12,7 @@ ghost use mathlib.Core.Path.{_≡_};
 ghost use mathlib.Core.Bool.{_&&_};
 ghost use Prim.Native.Nat.{_+_, _≤_};
 ghost use lib.Dec.{leb, ltb};
-ghost use Rattle.machine.specs.Source.{tapes};
+ghost use Rattle.machine.specs.Words.{lent};
 ghost use Rattle.steps.specs.Events.{signals};
 ghost use Rattle.events.specs.Run.{tables, run, ranFrom};
 
@@ -37,6 +37,7 @@ pub fn run_signals(
     transitions: &[u64],
     chances: &[f32],
     values: &[f64],
+    words: &[u64],
     fw: Framework,
     actions: [TriggerAction; 16],
     s: Shared,
@@ -44,7 +45,7 @@ pub fn run_signals(
     requires { ⌜ (s .«signal_pending» ≡ 0 → ⊥) ⌝ }
     ensures is { λ r. ⌜ (
         let T = tables (now (machines .entry)) (now (states .entry)) (now (transitions .entry)) in
-        let D = tapes (now (chances .entry)) (now (values .entry)) in
+        let D = lent (now (chances .entry)) (now (values .entry)) (now (words .entry)) in
         r ≡ ranFrom (run fw actions s) (signals T D (run fw actions s))) ⌝ }
     ensures keeps { λ r. ⌜ r .framework .machines ≡ fw .machines ⌝ }
 {
@@ -67,7 +68,18 @@ pub fn run_signals(
             let c = context_of(machines, m, f.current_time, fixed, totals);
             let r = f.runtime[m];
             let p = a[m];
-            let x = transition::transition(rows, transitions, chances, values, c, SIGNAL, r, t, p);
+            let x = transition::transition(
+                rows,
+                transitions,
+                chances,
+                values,
+                words,
+                c,
+                SIGNAL,
+                r,
+                t,
+                p,
+            );
             match x {
                 Stepped::Refused(why) => {
                     return Ran {

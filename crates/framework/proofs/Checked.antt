@@ -8,11 +8,15 @@ use native.Mathlib.Omega.{arith}
 use lib.Dec.{T as Holds, eqb, ltb}
 use lib.ListN.{length}
 use borrow.Author.Tests.{eq-eqb, ne-eqb, eqb-false, ltb-false}
+use Rattle.machine.specs.Source.{Source}
+use Rattle.machine.specs.declared.source.Place.{Place}
 use Rattle.tables.specs.First.{orElse}
 use Rattle.tables.specs.Machine.{tablesRefusal}
+use Rattle.tables.specs.Outside.{drawsOutside}
 use Rattle.tables.specs.Valid.Laws.{zero-valid}
 use Rattle.steps.specs.Events.{Tables, numMachines}
-use Rattle.steps.specs.Framework.{rowsIn, statesFit, endedIn, fitsTables, kindsFit, eventsFit, batchRefusal}
+use Rattle.steps.specs.Framework.{rowsIn, statesFit, endedIn, fitsTables, kindsFit, eventsFit, batchRefusal, triggerEvents, refused, concluded, batch}
+use Rattle.steps.specs.Words.{outsideRefused}
 use Rattle.steps.specs.Fits.{fits-says}
 use Rattle.steps.specs.declared.Framework.{Framework}
 use Rattle.events.proofs.All.{bool-cases}
@@ -46,6 +50,47 @@ none-then a b e =
     (λ (z : eqb a 0 ≡ true). rw z at e)
     (λ (z : eqb a 0 ≡ false). absurd (eqb-false a 0 z (rw z at e)))
     (bool-cases (eqb a 0))
+
+-- ---- with words 24 stands after the tables and before the rest
+abbrev outsideOn : Bool → Tables → Bool
+outsideOn raw T = raw && outsideRefused (tablesRefusal (T .machines) (T .states) (T .transitions)) T
+
+abbrev pub refusalOn : Bool → Framework → Tables → List ℕ → List ℕ → ℕ
+refusalOn raw fw T es out = cond (outsideOn raw T) 24 (batchRefusal fw T es out)
+
+module _ (raw : Bool) (T : Tables) where
+  abbrev tables : ℕ
+  tables = tablesRefusal (T .machines) (T .states) (T .transitions)
+
+  pub outside-never : (tables ≡ 0 → ⊥) → outsideOn raw T ≡ false
+  outside-never h = rw (ne-eqb tables 0 h) (by raw)
+    where
+      by : (a : Bool) → (a && false) ≡ false
+      by true = refl
+      by false = refl
+
+  pub outside-asked : tables ≡ 0 → outsideOn raw T ≡ (raw && drawsOutside (T .machines) (T .states))
+  outside-asked e = rw (eq-eqb tables 0 e)
+
+  module _ (fw : Framework) (es out : List ℕ) where
+    pub passed-on : refusalOn raw fw T es out ≡ 0 → (outsideOn raw T ≡ false) × (batchRefusal fw T es out ≡ 0)
+    passed-on = by (outsideOn raw T)
+      where
+        by : (b : Bool) → cond b 24 (batchRefusal fw T es out) ≡ 0 → (b ≡ false) × (batchRefusal fw T es out ≡ 0)
+        by true e = absurd (omega (arith, e))
+        by false e = (refl, e)
+
+    pub refused-on : (time : ℕ) (D : Source Place) → (refusalOn raw fw T es out ≡ 0 → ⊥)
+        → cond (outsideOn raw T) (refused fw out 24) (batch fw T time es D out) ≡ refused fw out (refusalOn raw fw T es out)
+    unfolding batch
+    refused-on time D = by (outsideOn raw T)
+      where
+        by : (b : Bool) → (cond b 24 (batchRefusal fw T es out) ≡ 0 → ⊥)
+            → cond b (refused fw out 24)
+            (cond (eqb (batchRefusal fw T es out) 0) (concluded fw out (triggerEvents T D time es fw)) (refused fw out (batchRefusal fw T es out)))
+            ≡ refused fw out (cond b 24 (batchRefusal fw T es out))
+        by true h = refl
+        by false h = rw (ne-eqb (batchRefusal fw T es out) 0 h)
 
 pub few-machines : (machines states transitions : List ℕ) →
     tablesRefusal machines states transitions ≡ 0 → rowsIn machines ≤ 16

@@ -1,29 +1,54 @@
-// framework.rs, the outer half: the opening, a batch of events with its refusals and its output, and
-// all_machines_ended.
+// framework.rs, the outer half: the opening, a batch of events with its refusals and its output, each from two tapes and from
+// raw words, and all_machines_ended.
+use machine::constants::DRAWN_OUTSIDE;
 use machine::constants::MACHINE_WORDS;
 use machine::constants::NUM_STATES;
 use machine::constants::ROW_WORDS;
 use machine::state::word;
 use steps::Answer;
+use steps::AnswerWords;
 use steps::Framework;
 use steps::Opened;
+use steps::OpenedWords;
 use steps::Ran;
 use steps::Verdict;
 ghost use mathlib.Core.Path.{_≡_};
-ghost use mathlib.Core.Bool.{true};
+ghost use mathlib.Core.Bool.{true, cond, _&&_};
 ghost use mathlib.Core.List.{List, []};
 ghost use Prim.Native.Nat.{ℕ, _*_, _/_, _≤_};
 ghost use lib.ListN.{length};
 ghost use Rattle.machine.specs.Constants.{rowWords};
 ghost use Rattle.tables.specs.Machine.{tablesRefusal};
+ghost use Rattle.tables.specs.Outside.{drawsOutside};
 ghost use Rattle.steps.specs.Events.{numMachines};
 ghost use Rattle.steps.specs.Framework as Spec;
 ghost use Rattle.machine.specs.Source.{tapes};
+ghost use Rattle.machine.specs.Words.{lent};
+ghost use Rattle.steps.specs.Words.{outsideRefused, openedInWords, openingWords, batchWords};
 ghost use Rattle.events.specs.Run.{tables, runOf, entered, ranFrom};
 
 mod checks; // refusals 18 and 19
 mod rows; // the output rows
 mod start; // the machines of an opening
+
+// What an opening refuses before it draws: the fractions, then the tables.
+fn open_refusal(
+    max_padding_frac: f64,
+    max_blocking_frac: f64,
+    machines: &[u64],
+    states: &[u64],
+    transitions: &[u64],
+) -> u64
+    ensures { λ r. ⌜ (
+        let T = tables (now (machines .entry)) (now (states .entry)) (now (transitions .entry)) in
+        r ≡ Spec.openRefusal T «max_padding_frac» «max_blocking_frac») ⌝ }
+{
+    let fractions = tables::check_fractions(max_padding_frac, max_blocking_frac);
+    if fractions != 0 {
+        return fractions;
+    }
+    tables::check_tables(machines, states, transitions)
+}
 
 // Framework::new.
 pub fn opening(
@@ -39,14 +64,17 @@ pub fn opening(
         let T = tables (now (machines .entry)) (now (states .entry)) (now (transitions .entry)) in
         r ≡ Spec.opening T «max_padding_frac» «max_blocking_frac» time (tapes [] (now (values .entry)))) ⌝ }
 {
-    let fractions = tables::check_fractions(max_padding_frac, max_blocking_frac);
-    if fractions != 0 {
-        return start::unopened(fractions);
-    }
-    let refusal = tables::check_tables(machines, states, transitions);
+    let refusal = open_refusal(
+        max_padding_frac,
+        max_blocking_frac,
+        machines,
+        states,
+        transitions,
+    );
     if refusal != 0 {
         return start::unopened(refusal);
     }
+    let words: [u64; 0] = [];
     start::open_machines(
         max_padding_frac,
         max_blocking_frac,
@@ -54,13 +82,76 @@ pub fn opening(
         machines,
         states,
         values,
+        &words,
     )
 }
 
+// An opening's answer, where its draws came from words.
+fn opened_in_words(o: Opened) -> OpenedWords
+    ensures { λ r. ⌜ r ≡ openedInWords o ⌝ }
+{
+    let f = o.framework;
+    OpenedWords {
+        refusal: o.refusal,
+        words_used: o.value_used,
+        framework: f,
+    }
+}
+
+// The same from raw words: 24 after the table checks.
+pub fn opening_words(
+    max_padding_frac: f64,
+    max_blocking_frac: f64,
+    time: u64,
+    machines: &[u64],
+    states: &[u64],
+    transitions: &[u64],
+    words: &[u64],
+) -> OpenedWords
+    ensures { λ r. ⌜ (
+        let T = tables (now (machines .entry)) (now (states .entry)) (now (transitions .entry)) in
+        r ≡ openingWords T «max_padding_frac» «max_blocking_frac» time (now (words .entry))) ⌝ }
+{
+    let refusal = open_refusal(
+        max_padding_frac,
+        max_blocking_frac,
+        machines,
+        states,
+        transitions,
+    );
+    if refusal != 0 {
+        return opened_in_words(start::unopened(refusal));
+    }
+    if tables::draws_outside(machines, states) {
+        return opened_in_words(start::unopened(DRAWN_OUTSIDE));
+    }
+    let values: [f64; 0] = [];
+    opened_in_words(start::open_machines(
+        max_padding_frac,
+        max_blocking_frac,
+        time,
+        machines,
+        states,
+        &values,
+        words,
+    ))
+}
+
+// 24, of tables that pass: only a call that draws from words asks it.
+fn outside(raw: bool, machines: &[u64], states: &[u64]) -> bool
+    ensures { λ r. ⌜ r ≡ (raw && drawsOutside (now (machines .entry)) (now (states .entry))) ⌝ }
+{
+    if raw {
+        return tables::draws_outside(machines, states);
+    }
+    false
+}
+
 // What a batch refuses before it runs, where `fits` says whether its framework fits tables that
-// pass; `room` is the output's length.
+// pass, and `raw` that it draws from words; `room` is the output's length.
 fn batch_refusal(
     fits: bool,
+    raw: bool,
     machines: &[u64],
     states: &[u64],
     transitions: &[u64],
@@ -70,11 +161,14 @@ fn batch_refusal(
     ensures { λ r. ⌜ (
         let T = tables (now (machines .entry)) (now (states .entry)) (now (transitions .entry)) in
         ((fw : Framework) (out : List ℕ) → (tablesRefusal (T .machines) (T .states) (T .transitions) ≡ 0 → fits ≡ Spec.fitsTables T fw)
-        → length out ≡ room → r ≡ Spec.batchRefusal fw T (now (events .entry)) out)) ⌝ }
+        → length out ≡ room → r ≡ cond (raw && outsideRefused (tablesRefusal (T .machines) (T .states) (T .transitions)) T) 24 (Spec.batchRefusal fw T (now (events .entry)) out))) ⌝ }
 {
     let refusal = tables::check_tables(machines, states, transitions);
     if refusal != 0 {
         return refusal;
+    }
+    if outside(raw, machines, states) {
+        return DRAWN_OUTSIDE;
     }
     if fits {
         if checks::events_fit(events) {
@@ -98,11 +192,12 @@ fn trigger_events(
     events: &[u64],
     chances: &[f32],
     values: &[f64],
+    words: &[u64],
 ) -> Ran
     requires { ⌜ Spec.kindsFit (now events) (length (now events) / 2) ≡ true ⌝ }
     ensures is { λ r. ⌜ (
         let T = tables (now (machines .entry)) (now (states .entry)) (now (transitions .entry)) in
-        let D = tapes (now (chances .entry)) (now (values .entry)) in
+        let D = lent (now (chances .entry)) (now (values .entry)) (now (words .entry)) in
         r ≡ ranFrom (entered fw) (Spec.triggerEvents T D time (now (events .entry)) fw)) ⌝ }
     ensures keeps { λ r. ⌜ r .framework .machines ≡ fw .machines ⌝ }
 {
@@ -115,6 +210,7 @@ fn trigger_events(
         events,
         chances,
         values,
+        words,
     );
     let verdict = ran.verdict;
     match verdict {
@@ -135,6 +231,7 @@ fn trigger_events(
         transitions,
         chances,
         values,
+        words,
         f,
         actions,
         s,
@@ -191,8 +288,10 @@ fn accepted(ran: Ran, out: &mut [u64]) -> Answer
 }
 
 // trigger_events: a batch of events at one time, and the actions that it returns as rows of `out`.
-// The machines are looked at here, where the framework is at hand: handed on, it would be copied.
-pub fn batch(
+// It draws from the two tapes, or, where `raw` is set, from the words; what is not meant is lent
+// empty. The machines are looked at here, where the framework is at hand: handed on, it would be
+// copied.
+pub fn batch_on(
     fw: Framework,
     machines: &[u64],
     states: &[u64],
@@ -201,12 +300,15 @@ pub fn batch(
     events: &[u64],
     chances: &[f32],
     values: &[f64],
+    words: &[u64],
+    raw: bool,
     out: &mut [u64],
 ) -> Answer
     ensures { λ r. ⌜ (
         let T = tables (now (machines .entry)) (now (states .entry)) (now (transitions .entry)) in
-        let D = tapes (now (chances .entry)) (now (values .entry)) in
-        let B = Spec.batch fw T time (now (events .entry)) D (now (out .entry)) in
+        let D = lent (now (chances .entry)) (now (values .entry)) (now (words .entry)) in
+        let outside = outsideRefused (tablesRefusal (T .machines) (T .states) (T .transitions)) T in
+        let B = cond (raw && outside) (Spec.refused fw (now (out .entry)) 24) (Spec.batch fw T time (now (events .entry)) D (now (out .entry))) in
         (r ≡ B .answer) × (now (out .exit) ≡ B .out)) ⌝ }
 {
     let count = numbers::smaller((machines.len() / MACHINE_WORDS) as u64, 16) as usize;
@@ -231,7 +333,7 @@ pub fn batch(
         ended,
         machines,
     );
-    let refusal = batch_refusal(fits, machines, states, transitions, events, out.len());
+    let refusal = batch_refusal(fits, raw, machines, states, transitions, events, out.len());
     if refusal != 0 {
         return refused(fw, refusal);
     }
@@ -244,11 +346,86 @@ pub fn batch(
         events,
         chances,
         values,
+        words,
     );
     let verdict = ran.verdict;
     match verdict {
         Verdict::Refused(n) => refused(fw, n),
         Verdict::Complete => accepted(ran, out),
+    }
+}
+
+// A batch on two tapes.
+pub fn batch(
+    fw: Framework,
+    machines: &[u64],
+    states: &[u64],
+    transitions: &[u64],
+    time: u64,
+    events: &[u64],
+    chances: &[f32],
+    values: &[f64],
+    out: &mut [u64],
+) -> Answer
+    ensures { λ r. ⌜ (
+        let T = tables (now (machines .entry)) (now (states .entry)) (now (transitions .entry)) in
+        let D = tapes (now (chances .entry)) (now (values .entry)) in
+        let B = Spec.batch fw T time (now (events .entry)) D (now (out .entry)) in
+        (r ≡ B .answer) × (now (out .exit) ≡ B .out)) ⌝ }
+{
+    let words: [u64; 0] = [];
+    batch_on(
+        fw,
+        machines,
+        states,
+        transitions,
+        time,
+        events,
+        chances,
+        values,
+        &words,
+        false,
+        out,
+    )
+}
+
+// A batch from raw words.
+pub fn batch_words(
+    fw: Framework,
+    machines: &[u64],
+    states: &[u64],
+    transitions: &[u64],
+    time: u64,
+    events: &[u64],
+    words: &[u64],
+    out: &mut [u64],
+) -> AnswerWords
+    ensures { λ r. ⌜ (
+        let T = tables (now (machines .entry)) (now (states .entry)) (now (transitions .entry)) in
+        let B = batchWords fw T time (now (events .entry)) (now (words .entry)) (now (out .entry)) in
+        (r ≡ B .answer) × (now (out .exit) ≡ B .out)) ⌝ }
+{
+    let chances: [f32; 0] = [];
+    let values: [f64; 0] = [];
+    let a = batch_on(
+        fw,
+        machines,
+        states,
+        transitions,
+        time,
+        events,
+        &chances,
+        &values,
+        words,
+        true,
+        out,
+    );
+    let f = a.framework;
+    AnswerWords {
+        refusal: a.refusal,
+        actions: a.actions,
+        words_used: a.value_used,
+        framework: f,
     }
 }
 

@@ -20,7 +20,7 @@ use steps::Totals;
 ghost use mathlib.Core.Path.{_≡_};
 ghost use mathlib.Core.List.{List, []};
 ghost use Prim.Native.Nat.{ℕ, _≤_, _<_};
-ghost use Rattle.machine.specs.Source.{tapeValues, tapes};
+ghost use Rattle.machine.specs.Words.{lentValues, lent};
 ghost use Rattle.steps.specs.Events.{stop};
 ghost use Rattle.steps.specs.Framework.{newFramework, newRuntime, startLimit, openMachine, rowsIn, openRun, openedBy};
 ghost use Rattle.events.specs.Run.{tables};
@@ -96,13 +96,13 @@ pub fn unopened(refusal: u64) -> Opened
 }
 
 // The start state's limit; without an action it stays 0.
-fn start_limit(row: &[u64], values: &[f64], at: Place) -> WholeDrawn
-    ensures { λ r. ⌜ r ≡ startLimit (now (row .entry)) (tapeValues (now (values .entry))) at ⌝ }
+fn start_limit(row: &[u64], values: &[f64], words: &[u64], at: Place) -> WholeDrawn
+    ensures { λ r. ⌜ r ≡ startLimit (now (row .entry)) (lentValues (now (values .entry)) (now (words .entry))) at ⌝ }
 {
     if word(row, ACTION) == 0 {
         return WholeDrawn::GotWhole(Whole { value: 0, at: at });
     }
-    sample_limit(row, values, at)
+    sample_limit(row, values, words, at)
 }
 
 // Machine m as it opens at a time; the transition table is not read.
@@ -110,6 +110,7 @@ fn open_machine(
     machines: &[u64],
     states: &[u64],
     values: &[f64],
+    words: &[u64],
     m: usize,
     time: u64,
     at: Place,
@@ -117,10 +118,10 @@ fn open_machine(
     requires { ⌜ m < 16 ⌝ }
     ensures { λ r. ⌜ ((transitions : List ℕ) →
         let T = tables (now (machines .entry)) (now (states .entry)) transitions in
-        r ≡ openMachine T (tapeValues (now (values .entry))) m time at) ⌝ }
+        r ≡ openMachine T (lentValues (now (values .entry)) (now (words .entry))) m time at) ⌝ }
 {
     let row = state_row(states_of(machines, states, m), 0);
-    let limit = start_limit(row, values, at);
+    let limit = start_limit(row, values, words, at);
     match limit {
         WholeDrawn::Refused(n) => Entered::Refused(n),
         WholeDrawn::GotWhole(w) => {
@@ -140,11 +141,12 @@ pub fn open_machines(
     machines: &[u64],
     states: &[u64],
     values: &[f64],
+    words: &[u64],
 ) -> Opened
     requires { ⌜ rowsIn (now machines) ≤ 16 ⌝ }
     ensures { λ r. ⌜ ((transitions : List ℕ) →
         let T = tables (now (machines .entry)) (now (states .entry)) transitions in
-        let D = tapes [] (now (values .entry)) in
+        let D = lent [] (now (values .entry)) (now (words .entry)) in
         r ≡ openedBy (openRun T «max_padding_frac» «max_blocking_frac» time D)) ⌝ }
 {
     let count = machines.len() / MACHINE_WORDS;
@@ -155,7 +157,7 @@ pub fn open_machines(
     };
     let mut m = 0;
     while m < count {
-        let entered = open_machine(machines, states, values, m, time, at);
+        let entered = open_machine(machines, states, values, words, m, time, at);
         match entered {
             Entered::Refused(n) => {
                 return unopened(n);

@@ -2,6 +2,7 @@
 pub mod Constants
 pub mod Event
 pub mod Source
+pub mod Words
 pub mod State
 pub mod Part
 pub mod Same

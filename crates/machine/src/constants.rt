@@ -75,15 +75,20 @@ pub const EVENTS: usize = 32;
 // Words of a counter before its distribution: operation and copy.
 pub const COUNTER_DIST: usize = 2;
 
-// Kinds of a distribution; 2 is drawn outside.
+// Kinds of a distribution; the last is drawn outside.
 pub const ABSENT: u64 = 0;
 
 pub const UNIFORM: u64 = 1;
+
+pub const OUTSIDE: u64 = 2;
 
 // Refusals of a draw: beyond the tape's end, and one that is not fit.
 pub const NO_DRAW: u64 = 16;
 
 pub const UNFIT_DRAW: u64 = 17;
+
+// Refusal of a distribution that is drawn outside, in a call from raw words.
+pub const DRAWN_OUTSIDE: u64 = 24;
 
 // Codes of an action.
 pub const CANCEL: u64 = 1;

@@ -56,12 +56,12 @@ pub fn state_row(rows: &[u64], state: u64) -> &[u64]
     state_rows(rows, state, 1)
 }
 
-// The first transition row of an event.
+// The first transition row of an event that has some: then the word is there.
 pub fn first_of(row: &[u64], event: u64) -> u64
-    requires { ⌜ event < eventNum ⌝ }
+    requires { ⌜ event < eventNum ⌝ ∗ ⌜ (countOf (now row) event ≡ 0 → ⊥) ⌝ }
     ensures { λ r. ⌜ r ≡ firstOf (now (row .entry)) event ⌝ }
 {
-    word(row, EVENTS + (event as usize) * 2)
+    row[EVENTS + (event as usize) * 2]
 }
 
 // How many transition rows an event has; 0 where it has no row.

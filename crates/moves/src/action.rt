@@ -12,7 +12,7 @@ use samples::dist::WholeDrawn;
 use steps::Scheduled;
 use steps::TriggerAction;
 ghost use mathlib.Core.Path.{_≡_};
-ghost use Rattle.machine.specs.Source.{tapeValues};
+ghost use Rattle.machine.specs.Words.{lentValues};
 ghost use Rattle.steps.specs.Transition.{noAction, returnedFlags, returnedTimer, scheduleAction};
 
 pub fn no_action() -> TriggerAction
@@ -52,16 +52,16 @@ fn returned_timer(row: &[u64]) -> u64
 }
 
 // The timeout is drawn before the duration.
-pub fn schedule_action(row: &[u64], values: &[f64], at: Place) -> Scheduled
-    ensures { λ x. ⌜ x ≡ scheduleAction (now (row .entry)) (tapeValues (now (values .entry))) at ⌝ }
+pub fn schedule_action(row: &[u64], values: &[f64], words: &[u64], at: Place) -> Scheduled
+    ensures { λ x. ⌜ x ≡ scheduleAction (now (row .entry)) (lentValues (now (values .entry)) (now (words .entry))) at ⌝ }
 {
-    let timeout = sample_timeout(row, values, at);
+    let timeout = sample_timeout(row, values, words, at);
     let t = match timeout {
         WholeDrawn::Refused(n) => return Scheduled::Refused(n),
         WholeDrawn::GotWhole(w) => w,
     };
     let timed = t.at;
-    let duration = sample_duration(row, values, timed);
+    let duration = sample_duration(row, values, words, timed);
     match duration {
         WholeDrawn::Refused(n) => Scheduled::Refused(n),
         WholeDrawn::GotWhole(d) => {

@@ -10,7 +10,7 @@ use machine::state::sample_state;
 use machine::state::state_row;
 ghost use mathlib.Core.Path.{_≡_};
 ghost use Prim.Native.Nat.{_<_};
-ghost use Rattle.machine.specs.Source.{nextChance};
+ghost use Rattle.machine.specs.Words.{lentChance};
 ghost use Rattle.moves.specs.Choice as Spec;
 
 // What was chosen, and where the tapes go on; or the refusal.
@@ -34,18 +34,19 @@ pub fn choose(
     rows: &[u64],
     transitions: &[u64],
     chances: &[f32],
+    words: &[u64],
     state: u64,
     event: u64,
     at: Place,
 ) -> Choice
     requires { ⌜ event < 13 ⌝ }
-    ensures { λ x. ⌜ x ≡ Spec.choose (now (rows .entry)) (now (transitions .entry)) (nextChance (now (chances .entry))) state event at ⌝ }
+    ensures { λ x. ⌜ x ≡ Spec.choose (now (rows .entry)) (now (transitions .entry)) (lentChance (now (chances .entry)) (now (words .entry))) state event at ⌝ }
 {
     if idle(rows, state, event) {
         return Choice::Chosen(Next::Nothing, at);
     }
     let row = state_row(rows, state);
-    let drawn = chance_draw(chances, at);
+    let drawn = chance_draw(chances, words, at);
     match drawn {
         ChanceDrawn::Refused(n) => Choice::Refused(n),
         ChanceDrawn::GotChance(draw, next) => {

@@ -20,7 +20,7 @@ ghost use mathlib.Core.Bool.{_&&_};
 ghost use lib.ListN.{getD};
 ghost use lib.Dec.{eqb};
 ghost use Rattle.machine.specs.Constants.{counterA, counterB, stateWords};
-ghost use Rattle.machine.specs.Source.{tapeValues};
+ghost use Rattle.machine.specs.Words.{lentValues};
 ghost use Prim.Native.Nat.{_+_, _≤_};
 ghost use Rattle.steps.specs.Transition as Spec;
 ghost use Rattle.moves.specs.Counter.{valueAfter, counterAfter};
@@ -65,9 +65,16 @@ fn counter_of(reports: bool, value: u64, zeroed: bool, at: Place) -> Counted
 
 // What a counter changes by: the other's value from before the update where copy is set, and else
 // a sample.
-fn change_of(row: &[u64], k: usize, values: &[f64], at: Place, other: u64) -> WholeDrawn
+fn change_of(
+    row: &[u64],
+    k: usize,
+    values: &[f64],
+    words: &[u64],
+    at: Place,
+    other: u64,
+) -> WholeDrawn
     requires { ⌜ k + 2 ≤ stateWords ⌝ }
-    ensures { λ x. ⌜ x ≡ Spec.changeOf (now (row .entry)) k (tapeValues (now (values .entry))) at other ⌝ }
+    ensures { λ x. ⌜ x ≡ Spec.changeOf (now (row .entry)) k (lentValues (now (values .entry)) (now (words .entry))) at other ⌝ }
 {
     if word(row, k + 1) == 1 {
         return WholeDrawn::GotWhole(Whole {
@@ -75,19 +82,27 @@ fn change_of(row: &[u64], k: usize, values: &[f64], at: Place, other: u64) -> Wh
             at: at,
         });
     }
-    sample_value(row, k, values, at)
+    sample_value(row, k, values, words, at)
 }
 
 // The new value of the counter that begins at word k of the row.
-fn value_after(row: &[u64], k: usize, values: &[f64], at: Place, old: u64, other: u64) -> WholeDrawn
+fn value_after(
+    row: &[u64],
+    k: usize,
+    values: &[f64],
+    words: &[u64],
+    at: Place,
+    old: u64,
+    other: u64,
+) -> WholeDrawn
     requires { ⌜ k + 2 ≤ stateWords ⌝ }
-    ensures { λ x. ⌜ x ≡ valueAfter (now (row .entry)) k (tapeValues (now (values .entry))) at old other ⌝ }
+    ensures { λ x. ⌜ x ≡ valueAfter (now (row .entry)) k (lentValues (now (values .entry)) (now (words .entry))) at old other ⌝ }
 {
     let operation = word(row, k);
     if operation == 0 {
         return WholeDrawn::GotWhole(Whole { value: old, at: at });
     }
-    let change = change_of(row, k, values, at, other);
+    let change = change_of(row, k, values, words, at, other);
     match change {
         WholeDrawn::Refused(n) => WholeDrawn::Refused(n),
         WholeDrawn::GotWhole(w) => {
@@ -120,13 +135,22 @@ fn counter_after(drawn: WholeDrawn, old: u64, zeroed: bool) -> Counted
 pub fn update_counters(
     row: &[u64],
     values: &[f64],
+    words: &[u64],
     old: Counters,
     zeroed: Zeroed,
     at: Place,
 ) -> Tallied
-    ensures { λ x. ⌜ x ≡ Spec.updateCounters (now (row .entry)) (tapeValues (now (values .entry))) old zeroed at ⌝ }
+    ensures { λ x. ⌜ x ≡ Spec.updateCounters (now (row .entry)) (lentValues (now (values .entry)) (now (words .entry))) old zeroed at ⌝ }
 {
-    let drawn_a = value_after(row, COUNTER_A, values, at, old.counter_a, old.counter_b);
+    let drawn_a = value_after(
+        row,
+        COUNTER_A,
+        values,
+        words,
+        at,
+        old.counter_a,
+        old.counter_b,
+    );
     let x = counter_after(drawn_a, old.counter_a, zeroed.counter_a);
     let a = match x {
         Counted::Refused(n) => return Tallied::Refused(n),
@@ -134,7 +158,15 @@ pub fn update_counters(
     };
     let after_a = a.at;
     let old_value_a = old.counter_a;
-    let drawn_b = value_after(row, COUNTER_B, values, after_a, old.counter_b, old_value_a);
+    let drawn_b = value_after(
+        row,
+        COUNTER_B,
+        values,
+        words,
+        after_a,
+        old.counter_b,
+        old_value_a,
+    );
     let y = counter_after(drawn_b, old.counter_b, zeroed.counter_b);
     let b = match y {
         Counted::Refused(n) => return Tallied::Refused(n),
@@ -166,8 +198,15 @@ fn no_counters(row: &[u64]) -> bool
 }
 
 // The same, where most rows have no counter.
-pub fn update_any(row: &[u64], values: &[f64], old: Counters, zeroed: Zeroed, at: Place) -> Tallied
-    ensures { λ x. ⌜ x ≡ Spec.updateCounters (now (row .entry)) (tapeValues (now (values .entry))) old zeroed at ⌝ }
+pub fn update_any(
+    row: &[u64],
+    values: &[f64],
+    words: &[u64],
+    old: Counters,
+    zeroed: Zeroed,
+    at: Place,
+) -> Tallied
+    ensures { λ x. ⌜ x ≡ Spec.updateCounters (now (row .entry)) (lentValues (now (values .entry)) (now (words .entry))) old zeroed at ⌝ }
 {
     if no_counters(row) {
         return Tallied::At(Tally {
@@ -177,5 +216,5 @@ pub fn update_any(row: &[u64], values: &[f64], old: Counters, zeroed: Zeroed, at
             reports: false,
         });
     }
-    update_counters(row, values, old, zeroed, at)
+    update_counters(row, values, words, old, zeroed, at)
 }

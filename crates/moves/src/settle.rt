@@ -25,7 +25,7 @@ use steps::Zeroed;
 ghost use mathlib.Core.Path.{_≡_};
 ghost use mathlib.Core.Bool.{_&&_};
 ghost use lib.Dec.{eqb};
-ghost use Rattle.machine.specs.Source.{tapeValues};
+ghost use Rattle.machine.specs.Words.{lentValues};
 ghost use Rattle.moves.specs.Short as Spec;
 
 // What a move to a state may change of its machine, and of what the call shares.
@@ -100,12 +100,19 @@ fn may_fall(falls: bool, before: u64, next: u64) -> bool
 
 // After the counters: the action is scheduled where the limits allow it, which are judged with the
 // machine as it entered the state.
-fn settle_in(row: &[u64], values: &[f64], c: Context, entered: MachineRuntime, t: Tally) -> Short
-    ensures { λ x. ⌜ x ≡ Spec.settleIn (now (row .entry)) (tapeValues (now (values .entry))) c entered t ⌝ }
+fn settle_in(
+    row: &[u64],
+    values: &[f64],
+    words: &[u64],
+    c: Context,
+    entered: MachineRuntime,
+    t: Tally,
+) -> Short
+    ensures { λ x. ⌜ x ≡ Spec.settleIn (now (row .entry)) (lentValues (now (values .entry)) (now (words .entry))) c entered t ⌝ }
 {
     let place = t.place;
     if below_action_limits(c, entered, row) {
-        let scheduled = schedule_action(row, values, place);
+        let scheduled = schedule_action(row, values, words, place);
         match scheduled {
             Scheduled::Refused(_) => return Short::Elsewhere,
             Scheduled::Set(action, at) => return Short::Acted(action, move_of(entered, t, at)),
@@ -115,24 +122,32 @@ fn settle_in(row: &[u64], values: &[f64], c: Context, entered: MachineRuntime, t
 }
 
 // To a state of the machine, whose row is `row`.
-fn settle(row: &[u64], values: &[f64], c: Context, next: u64, r: MachineRuntime, s: Shared) -> Short
-    ensures { λ x. ⌜ x ≡ Spec.settle (now (row .entry)) (tapeValues (now (values .entry))) c next r s ⌝ }
+fn settle(
+    row: &[u64],
+    values: &[f64],
+    words: &[u64],
+    c: Context,
+    next: u64,
+    r: MachineRuntime,
+    s: Shared,
+) -> Short
+    ensures { λ x. ⌜ x ≡ Spec.settle (now (row .entry)) (lentValues (now (values .entry)) (now (words .entry))) c next r s ⌝ }
 {
     let place = s.place;
-    let entered = enter(row, values, r, next, place);
+    let entered = enter(row, values, words, r, next, place);
     match entered {
         Entered::Refused(_) => Short::Elsewhere,
         Entered::In(q, at) => {
             let old = q.counters;
             let zeroed = s.zeroed;
-            let tallied = update_any(row, values, old, zeroed, at);
+            let tallied = update_any(row, values, words, old, zeroed, at);
             match tallied {
                 Tallied::Refused(_) => Short::Elsewhere,
                 Tallied::At(t) => {
                     if t.reports {
                         return Short::Elsewhere;
                     }
-                    settle_in(row, values, c, q, t)
+                    settle_in(row, values, words, c, q, t)
                 }
             }
         }
@@ -142,13 +157,14 @@ fn settle(row: &[u64], values: &[f64], c: Context, next: u64, r: MachineRuntime,
 pub fn short_way(
     rows: &[u64],
     values: &[f64],
+    words: &[u64],
     c: Context,
     falls: bool,
     chosen: Next,
     r: MachineRuntime,
     s: Shared,
 ) -> Short
-    ensures { λ x. ⌜ x ≡ Spec.short (now (rows .entry)) (tapeValues (now (values .entry))) c falls chosen r s ⌝ }
+    ensures { λ x. ⌜ x ≡ Spec.short (now (rows .entry)) (lentValues (now (values .entry)) (now (words .entry))) c falls chosen r s ⌝ }
 {
     let Next::State(next) = chosen else {
         return Short::Elsewhere;
@@ -162,5 +178,5 @@ pub fn short_way(
     if may_fall(falls, r.current_state, next) {
         return Short::Elsewhere;
     }
-    settle(state_row(rows, next), values, c, next, r, s)
+    settle(state_row(rows, next), values, words, c, next, r, s)
 }

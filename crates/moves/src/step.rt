@@ -22,7 +22,7 @@ ghost use Prim.Native.Nat.{_<_};
 ghost use Rattle.machine.specs.Constants.{stateEnd};
 ghost use Rattle.steps.specs.Limits.{belowActionLimits};
 ghost use Rattle.steps.specs.Transition as Spec;
-ghost use Rattle.machine.specs.Source.{tapeValues};
+ghost use Rattle.machine.specs.Words.{lentValues};
 
 // ---- two tests
 
@@ -77,13 +77,20 @@ pub fn raise(pending: u64, machine: u64) -> u64
 }
 
 // Entering another state draws its limit; the same one keeps what is left of it.
-pub fn enter(row: &[u64], values: &[f64], r: MachineRuntime, state: u64, at: Place) -> Entered
-    ensures { λ x. ⌜ x ≡ Spec.enter (now (row .entry)) (tapeValues (now (values .entry))) r state at ⌝ }
+pub fn enter(
+    row: &[u64],
+    values: &[f64],
+    words: &[u64],
+    r: MachineRuntime,
+    state: u64,
+    at: Place,
+) -> Entered
+    ensures { λ x. ⌜ x ≡ Spec.enter (now (row .entry)) (lentValues (now (values .entry)) (now (words .entry))) r state at ⌝ }
 {
     if r.current_state == state {
         return Entered::In(r, at);
     }
-    let limit = sample_limit(row, values, at);
+    let limit = sample_limit(row, values, words, at);
     match limit {
         WholeDrawn::Refused(n) => Entered::Refused(n),
         WholeDrawn::GotWhole(w) => {
@@ -135,12 +142,13 @@ fn has_changed(before: u64, u: Update) -> bool
 fn finish(
     row: &[u64],
     values: &[f64],
+    words: &[u64],
     c: Context,
     entered: MachineRuntime,
     before: u64,
     u: Update,
 ) -> Stepped
-    ensures { λ x. ⌜ x ≡ Spec.finish (now (row .entry)) (tapeValues (now (values .entry))) before (belowActionLimits c entered (now (row .entry))) u ⌝ }
+    ensures { λ x. ⌜ x ≡ Spec.finish (now (row .entry)) (lentValues (now (values .entry)) (now (words .entry))) before (belowActionLimits c entered (now (row .entry))) u ⌝ }
 {
     let changed = has_changed(before, u);
     let r = u.runtime;
@@ -148,7 +156,7 @@ fn finish(
     let p = u.action;
     if both(u.allow_schedule, below_action_limits(c, entered, row)) {
         let place = s.place;
-        let scheduled = schedule_action(row, values, place);
+        let scheduled = schedule_action(row, values, words, place);
         match scheduled {
             Scheduled::Refused(n) => return Stepped::Refused(n),
             Scheduled::Set(set, at) => {
@@ -164,16 +172,17 @@ fn finish(
 pub fn finished(
     row: &[u64],
     values: &[f64],
+    words: &[u64],
     c: Context,
     entered: MachineRuntime,
     before: u64,
     updated: Updated,
 ) -> Stepped
-    ensures { λ x. ⌜ x ≡ Spec.finished (now (row .entry)) (tapeValues (now (values .entry))) before (belowActionLimits c entered (now (row .entry))) updated ⌝ }
+    ensures { λ x. ⌜ x ≡ Spec.finished (now (row .entry)) (lentValues (now (values .entry)) (now (words .entry))) before (belowActionLimits c entered (now (row .entry))) updated ⌝ }
 {
     match updated {
         Updated::Refused(n) => Stepped::Refused(n),
-        Updated::Ready(u) => finish(row, values, c, entered, before, u),
+        Updated::Ready(u) => finish(row, values, words, c, entered, before, u),
     }
 }
 

@@ -1,2 +1,3 @@
--- A lemma of floats that a function's proof cites.
+-- What functions' proofs cite: a lemma of floats, and words from a position on.
 mod Whole
+mod Word

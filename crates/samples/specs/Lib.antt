@@ -2,3 +2,4 @@
 pub mod Dist
 pub mod Counter
 pub mod Action
+pub mod Uniform

@@ -2,7 +2,8 @@
 use super::dist::ValueDrawn;
 use super::dist::Whole;
 use super::dist::WholeDrawn;
-use super::dist::sample_at;
+use super::dist::sample_tape;
+use super::dist::sample_words;
 use machine::constants::ABSENT;
 use machine::constants::COUNTER_DIST;
 use machine::source::Place;
@@ -10,7 +11,7 @@ use machine::state::word;
 ghost use mathlib.Core.Path.{_≡_};
 ghost use Prim.Native.Nat.{_+_, _≤_};
 ghost use Rattle.machine.specs.Constants.{stateWords};
-ghost use Rattle.machine.specs.Source.{tapeValues};
+ghost use Rattle.machine.specs.Words.{lentValues};
 ghost use lib.Ieee.{toUnsigned};
 ghost use Rattle.samples.specs.Dist.{wholeOf};
 ghost use Rattle.samples.specs.Counter.{sampleValue};
@@ -32,14 +33,18 @@ fn cut_draw(drawn: ValueDrawn) -> WholeDrawn
     }
 }
 
-// The value of the counter that begins at word k: cut; 1 without a distribution.
-pub fn sample_value(row: &[u64], k: usize, values: &[f64], at: Place) -> WholeDrawn
+// The value of the counter that begins at word k: cut; 1 without a distribution. Here the sources
+// part too.
+pub fn sample_value(row: &[u64], k: usize, values: &[f64], words: &[u64], at: Place) -> WholeDrawn
     requires { ⌜ k + 2 ≤ stateWords ⌝ }
-    ensures { λ r. ⌜ r ≡ sampleValue (now (row .entry)) k (tapeValues (now (values .entry))) at ⌝ }
+    ensures { λ r. ⌜ r ≡ sampleValue (now (row .entry)) k (lentValues (now (values .entry)) (now (words .entry))) at ⌝ }
 {
     let dist = k + COUNTER_DIST;
     if word(row, dist) == ABSENT {
         return WholeDrawn::GotWhole(Whole { value: 1, at: at });
     }
-    cut_draw(sample_at(row, dist, values, at))
+    if words.len() != 0 {
+        return cut_draw(sample_words(row, dist, words, at));
+    }
+    cut_draw(sample_tape(row, dist, values, at))
 }

@@ -9,6 +9,7 @@ ghost use mathlib.Core.Path.{_≡_};
 ghost use Prim.Native.Nat.{_≤_};
 ghost use Rattle.machine.specs.Constants.{stateWords};
 ghost use Rattle.machine.specs.Source.{tapeValues};
+ghost use Rattle.machine.specs.Words.{unitOf, valueOf, wordValues, lentValues};
 ghost use Rattle.samples.specs.Dist as Spec;
 
 // The kind of a distribution. Document 01's "drawn outside" stands for the ten kinds other than
@@ -95,7 +96,7 @@ pub fn valid_uniform(low: f64, high: f64) -> bool
     finite & !(low > high) & numbers::is_finite(high - low)
 }
 
-// ---- the value tape: it is read by the next two functions alone
+// ---- values from the value tape: it is read by the next two functions alone
 
 // A Uniform value: 16 past the tape's end, 17 where it is not low <= v < high. With low = high it
 // takes no draw.
@@ -136,7 +137,46 @@ fn outside_draw(values: &[f64], at: Place) -> ValueDrawn
     ValueDrawn::Refused(NO_DRAW)
 }
 
-// ---- Dist::dist_sample and Dist::sample
+// ---- values from words
+
+// The top 53 bits of a word over 2^53, which is exact.
+fn unit_of(w: u64) -> f64
+    ensures { λ r. ⌜ r ≡ unitOf w ⌝ }
+{
+    let k = w / 2048;
+    (k as f64) / 9007199254740992.0
+}
+
+// low + (high - low) * u, each operation rounded.
+fn value_of(low: f64, high: f64, w: u64) -> f64
+    ensures { λ r. ⌜ r ≡ valueOf low high w ⌝ }
+{
+    low + (high - low) * unit_of(w)
+}
+
+// A Uniform value: where a word gives high or more the next one is tried; 16 past the tape's end.
+fn word_value(low: f64, high: f64, words: &[u64], at: Place) -> ValueDrawn
+    ensures { λ r. ⌜ r ≡ Spec.valueDrawn (wordValues (now (words .entry)) .uniform low high at) ⌝ }
+{
+    let mut i = at.value_at;
+    loop {
+        if words.len() <= i {
+            return ValueDrawn::Refused(NO_DRAW);
+        }
+        let v = value_of(low, high, words[i]);
+        i = i + 1;
+        if high <= v {
+            continue;
+        }
+        let next = Place {
+            chance_at: at.chance_at,
+            value_at: i,
+        };
+        return ValueDrawn::GotValue(Value { value: v, at: next });
+    }
+}
+
+// ---- Dist::dist_sample and Dist::sample, from the value tape and from words
 
 // Callers do not sample an absent distribution.
 fn dist_sample(d: Dist, values: &[f64], at: Place) -> ValueDrawn
@@ -147,6 +187,24 @@ fn dist_sample(d: Dist, values: &[f64], at: Place) -> ValueDrawn
         DistType::Absent => ValueDrawn::GotValue(Value { value: 0.0, at: at }),
         DistType::Uniform(low, high) => uniform_draw(low, high, values, at),
         DistType::Outside => outside_draw(values, at),
+    }
+}
+
+// The same from words; none serves a value drawn outside.
+fn word_sample(d: Dist, words: &[u64], at: Place) -> ValueDrawn
+    ensures { λ r. ⌜ r ≡ Spec.distSample d (wordValues (now (words .entry))) at ⌝ }
+{
+    let dist = d.dist;
+    match dist {
+        DistType::Absent => ValueDrawn::GotValue(Value { value: 0.0, at: at }),
+        DistType::Uniform(low, high) => {
+            let constant = low == high;
+            if constant {
+                return ValueDrawn::GotValue(Value { value: low, at: at });
+            }
+            word_value(low, high, words, at)
+        }
+        DistType::Outside => ValueDrawn::Refused(NO_DRAW),
     }
 }
 
@@ -191,10 +249,19 @@ fn adjusted_draw(d: Dist, drawn: ValueDrawn) -> ValueDrawn
 }
 
 // Dist::sample of the distribution that begins at word k of a state row.
-pub fn sample_at(row: &[u64], k: usize, values: &[f64], at: Place) -> ValueDrawn
+pub fn sample_tape(row: &[u64], k: usize, values: &[f64], at: Place) -> ValueDrawn
     requires { ⌜ k ≤ stateWords ⌝ }
     ensures { λ r. ⌜ r ≡ Spec.sample (Spec.distAt (now (row .entry)) k) (tapeValues (now (values .entry))) at ⌝ }
 {
     let d = dist_at(row, k);
     adjusted_draw(d, dist_sample(d, values, at))
+}
+
+// The same from words.
+pub fn sample_words(row: &[u64], k: usize, words: &[u64], at: Place) -> ValueDrawn
+    requires { ⌜ k ≤ stateWords ⌝ }
+    ensures { λ r. ⌜ r ≡ Spec.sample (Spec.distAt (now (row .entry)) k) (wordValues (now (words .entry))) at ⌝ }
+{
+    let d = dist_at(row, k);
+    adjusted_draw(d, word_sample(d, words, at))
 }

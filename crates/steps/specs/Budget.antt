@@ -14,6 +14,7 @@ pub mod Turns
 pub mod Rows
 pub mod Batches
 pub mod Opening
+pub mod Kinds
 pub mod Theorem
 pub mod Reached
 use Prim.Native.Nat.{ℕ, zero, suc, _+_, _-_, _*_, _^_, _≤_, _<_}
@@ -25,28 +26,26 @@ use lib.ListN.{getD}
 use lib.Dec.{T, eqb}
 use lib.Ieee.{Float, binary64, ofBits, lt, fits}
 use Rattle.numbers.specs.Fraction.{in1074}
-use Rattle.machine.specs.Source.{Source, Telling}
-use Rattle.machine.specs.declared.source.Place.{Place}
 use Rattle.machine.specs.Constants.{allowedPaddingPackets, maxPaddingFrac, sendPadding}
 use Rattle.machine.specs.Event.{normalSent, paddingSent}
 use Rattle.numbers.specs.Finite.{zeroF}
 use Rattle.steps.specs.Events.{Tables, machineWord}
-use Rattle.steps.specs.Framework.{opening, Batch, batch, rowsIn}
+use Rattle.steps.specs.Framework.{Batch, rowsIn}
+use Rattle.steps.specs.Words.{Lent, openingOn, batchOn}
 use Rattle.steps.specs.declared.Framework.{Framework}
 
--- ---- a batch of a list: what the sender lends. Its source tells why it refuses, as two tapes do
--- (`tapes-tell`).
+-- ---- a batch of a list: what the sender lends. It draws from two tapes or from words (`Lent`), each batch
+-- of a list from either.
 pub record Call : Type 0 where
   pub tables : Tables
   pub time : ℕ
   pub events : List ℕ
-  pub source : Source Place
-  pub tells : Telling source
+  pub lent : Lent
   pub out : List ℕ
 
 -- its answer and output, its refusal or 0, and the framework that it returns, where it gets the framework x
 abbrev pub answerOf : Framework → Call → Batch
-answerOf x c = batch x (c .tables) (c .time) (c .events) (c .source) (c .out)
+answerOf x c = batchOn x (c .tables) (c .time) (c .events) (c .lent) (c .out)
 
 abbrev pub refusalOf : Framework → Call → ℕ
 refusalOf x c = answerOf x c .answer .refusal
@@ -157,13 +156,12 @@ pub record Budgets (tables : Tables) (F : Float) (l : Ledger) : Type 0 where
       + (sum (rowsIn (tables .machines)) (allowance tables) + 4 * rowsIn (tables .machines)) * 2 ^ 1074
 
 -- ---- "It is a single claim about the list, not one for each call." The opening: tables, both
--- fractions, of which F is the padding fraction and an f64, time and source.
+-- fractions, of which F is the padding fraction and an f64, time, and two tapes or words, as each batch.
 abbrev pub NoBudgetOverdrawn : Type 0
 NoBudgetOverdrawn =
-    (tables : Tables) (F blocking : Float) (time : ℕ) (source : Source Place) (cs : List Call)
-    → Telling source
+    (tables : Tables) (F blocking : Float) (time : ℕ) (lent : Lent) (cs : List Call)
     → T (fits binary64 F)
-    → opening tables F blocking time source .refusal ≡ 0
-    → Lists tables empty (opening tables F blocking time source .framework) cs
-    → packets (ledger empty (opening tables F blocking time source .framework) cs) ≤ 2 ^ 53
-    → Budgets tables F (ledger empty (opening tables F blocking time source .framework) cs)
+    → openingOn tables F blocking time lent .refusal ≡ 0
+    → Lists tables empty (openingOn tables F blocking time lent .framework) cs
+    → packets (ledger empty (openingOn tables F blocking time lent .framework) cs) ≤ 2 ^ 53
+    → Budgets tables F (ledger empty (openingOn tables F blocking time lent .framework) cs)

@@ -6,11 +6,12 @@ use mathlib.Core.Bool.{Bool}
 use mathlib.Core.List.{List, [], _∷_}
 use mathlib.Core.Path.{_≡_, refl}
 use lib.Dec.{ltb, eqb}
-use lib.ListN.{length, getD}
-use lib.Ieee.{Float, nan, eq, toUnsigned}
+use lib.ListN.{length, getD, drop}
+use lib.Ieee.{Float, nan, eq, le, toUnsigned}
 use Rattle.numbers.specs.Round.{roundAway}
 use Rattle.machine.specs.Constants.{timeout, duration, limit, maxSampledTimeout, maxSampledDuration, counterA, counterB}
 use Rattle.machine.specs.Source.{Drawn, no, got, Source, Tells, Telling, chanceDrawn, chanceDraw, place, fitChance, fitUniform, anyValue, onTape, tapes}
+use Rattle.machine.specs.Words.{valueOf, wordValue, words}
 use Rattle.machine.specs.declared.source.Place.{Place}
 use Rattle.machine.specs.declared.source.ChanceDrawn.{ChanceDrawn}
 use Rattle.machine.specs.declared.source.ChanceDrawn.the-variants.{Refused, GotChance}
@@ -85,6 +86,18 @@ module _ (R : ℕ → Type 0) where
       on : (fit : Float → Bool) (tape : List Float) (i : ℕ) (after here : Place) → DrawOk R (onTape fit tape i after here)
       on fit tape i after here =
           either (DrawOk R) (ltb i (length tape)) _ _ (either (DrawOk R) (fit (getD tape i nan)) _ _ tt unfit) ended
+
+  -- words by 16
+  pub by-words : R 16 → (ws : List ℕ) → Refuses R (words ws)
+  by-words ended ws = record {
+    chance = λ at. either (DrawOk R) (ltb (at .«value_at») (length ws)) _ _ tt ended;
+    uniform = λ low high at. tried low high (drop (at .«value_at») ws) (at .«chance_at») (at .«value_at»);
+    outside = λ at. ended;
+  }
+    where
+      tried : (low high : Float) (vs : List ℕ) (c at : ℕ) → DrawOk R (wordValue low high vs c at)
+      tried low high [] c at = ended
+      tried low high (v ∷ vs) c at = either (DrawOk R) (le high (valueOf low high v)) _ _ (tried low high vs c (at + 1)) tt
 
   -- ---- answers of draws: a refusal, or a value of which P holds
   abbrev ValueOk : ValueDrawn → Type 0

@@ -11,17 +11,18 @@ use lib.Ieee.{Float}
 use lib.ListN.{getD}
 use borrow.Author.Tests.{eqb-true, eqb-false, eq-eqb, ne-eqb}
 use Rattle.machine.specs.Constants.{machineMax}
-use Rattle.machine.specs.Source.{Source, Telling, tapes}
+use Rattle.machine.specs.Source.{Source, Telling}
 use Rattle.machine.specs.declared.source.Place.{Place}
 use Rattle.steps.specs.Events.{Tables, numMachines, noRuntime, runtimeAt}
 use Rattle.steps.specs.Framework.{hasEnded, endedIn, fitsTables, opening, triggerEvents, batch, allMachinesEnded}
+use Rattle.steps.specs.Words.{Lent, sourceOf, lent-tells, openingOn, batchOn}
 use Rattle.steps.specs.Runs.{ok-any, opening-ok, batch-ok}
 use Rattle.steps.specs.Draws.{by-any, by-told}
 use Rattle.steps.specs.Targets.{Passed}
 use Rattle.steps.specs.Refusals.{run-stops}
-use Rattle.steps.specs.Fits.{fits-says, few, batch-fits, Fresh, opens-fresh, none-ended, opening-fits, never-18-on-tapes}
+use Rattle.steps.specs.Fits.{fits-says, few, batch-fits, Fresh, opens-fresh, none-ended, opening-fits, never-18-on}
 use Rattle.steps.specs.Budget.{Call, refusalOf, frameworkOf}
-use Rattle.steps.specs.Budget.Batches.{refused-law}
+use Rattle.steps.specs.Budget.Kinds.{opening-on, accepted-opening, batch-on, accepted-batch, refused-batch}
 use Rattle.steps.specs.declared.MachineRuntime.{MachineRuntime}
 use Rattle.steps.specs.declared.Framework.{Framework}
 
@@ -52,23 +53,30 @@ batch-right fw tables time es D out h =
     batch-ok (λ n. Unit) (λ x. Unit) (λ b. Right (b .answer .framework)) fw tables time es D out
     (λ e. ok-any (triggerEvents tables D time es fw)) (λ e. h) (λ e n r. h) (λ e x q. refl)
 
--- ---- THEOREM: the number is right after any opening and any list of batches, refused ones too, whatever they are lent.
+-- ---- THEOREM: the number is right after any opening and any list of batches, refused ones too, whatever they are lent. Each draws from two
+-- tapes or from words.
 -- each batch gets the framework that the last one returned
 abbrev pub after : Framework → List Call → Framework
 after x [] = x
 after x (c ∷ cs) = after (frameworkOf x c) cs
 
-pub ended-is-right : (tables : Tables) (padding blocking : Float) (time : ℕ) (D : Source Place) (cs : List Call)
-    → Right (after (opening tables padding blocking time D .framework) cs)
-ended-is-right tables padding blocking time D cs =
-    list (opening tables padding blocking time D .framework) cs (opening-right tables padding blocking time D)
+pub ended-is-right : (tables : Tables) (padding blocking : Float) (time : ℕ) (lent : Lent) (cs : List Call)
+    → Right (after (openingOn tables padding blocking time lent .framework) cs)
+unfolding endedIn
+ended-is-right tables padding blocking time lent cs =
+    list (openingOn tables padding blocking time lent .framework) cs
+    (opening-on (λ o. Right (o .framework)) tables padding blocking time lent refl
+    (opening-right tables padding blocking time (sourceOf lent)))
   where
     list : (x : Framework) (cs : List Call) → Right x → Right (after x cs)
     list x [] h = h
-    list x (c ∷ cs) h = list (frameworkOf x c) cs (batch-right x (c .tables) (c .time) (c .events) (c .source) (c .out) h)
+    list x (c ∷ cs) h =
+        list (frameworkOf x c) cs
+        (batch-on (λ b. Right (b .answer .framework)) x (c .tables) (c .time) (c .events) (c .lent) (c .out) h
+        (batch-right x (c .tables) (c .time) (c .events) (sourceOf (c .lent)) (c .out) h))
 
 -- ---- THEOREM: after an accepted opening and any list of batches, refused ones too, of which the accepted ones were lent the opening's
--- tables, a batch on two tapes that is lent these is not refused as 18.
+-- tables, a batch that is lent these is not refused as 18. Each draws from two tapes or from words.
 abbrev pub LentSame : Tables → Framework → List Call → Type 0
 LentSame tables x [] = Unit
 LentSame tables x (c ∷ cs) = (refusalOf x c ≡ 0 → c .tables ≡ tables) × LentSame tables (frameworkOf x c) cs
@@ -81,26 +89,29 @@ next-fits tables x c fits same = by (eqb (refusalOf x c) 0) refl
     by true e =
         let z = eqb-true (refusalOf x c) 0 e in
         subst (λ (t : Tables). T (fitsTables t (frameworkOf x c))) (same z)
-        (batch-fits x (c .tables) (c .time) (c .events) (c .source) (c .out) z)
+        (accepted-batch (λ b. T (fitsTables (c .tables) (b .answer .framework))) x (c .tables) (c .time) (c .events) (c .lent) (c .out)
+        (batch-fits x (c .tables) (c .time) (c .events) (sourceOf (c .lent)) (c .out)) z)
     by false e =
         subst (λ (y : Framework). T (fitsTables tables y))
-        (sym (refused-law x (c .tables) (c .time) (c .events) (c .source) (c .out) (eqb-false (refusalOf x c) 0 e))) fits
+        (sym (refused-batch x (c .tables) (c .time) (c .events) (c .lent) (c .out) (eqb-false (refusalOf x c) 0 e))) fits
 
 after-fits : (tables : Tables) (x : Framework) (cs : List Call) → T (fitsTables tables x) → LentSame tables x cs
     → T (fitsTables tables (after x cs))
 after-fits tables x [] fits same = fits
 after-fits tables x (c ∷ cs) fits same = after-fits tables (frameworkOf x c) cs (next-fits tables x c fits (same .0)) (same .1)
 
-pub never-18-after : (tables : Tables) (padding blocking : Float) (opened : ℕ) (D : Source Place) → Telling D
-    → opening tables padding blocking opened D .refusal ≡ 0
-    → (cs : List Call) → LentSame tables (opening tables padding blocking opened D .framework) cs
-    → (time : ℕ) (es : List ℕ) (chances values : List Float) (out : List ℕ)
-    → batch (after (opening tables padding blocking opened D .framework) cs) tables time es (tapes chances values) out .answer .refusal ≡ 18
+pub never-18-after : (tables : Tables) (padding blocking : Float) (opened : ℕ) (first : Lent)
+    → openingOn tables padding blocking opened first .refusal ≡ 0
+    → (cs : List Call) → LentSame tables (openingOn tables padding blocking opened first .framework) cs
+    → (time : ℕ) (es : List ℕ) (lent : Lent) (out : List ℕ)
+    → batchOn (after (openingOn tables padding blocking opened first .framework) cs) tables time es lent out .answer .refusal ≡ 18
     → ⊥
-never-18-after tables padding blocking opened D tells e cs same time es chances values out =
-    let x = opening tables padding blocking opened D .framework in
-    never-18-on-tapes (after x cs) tables time es chances values out
-    (after-fits tables x cs (opening-fits tables padding blocking opened D tells e) same)
+never-18-after tables padding blocking opened first e cs same time es lent out =
+    let x = openingOn tables padding blocking opened first .framework in
+    never-18-on (after x cs) tables time es lent out
+    (after-fits tables x cs
+    (accepted-opening (λ o. T (fitsTables tables (o .framework))) tables padding blocking opened first
+    (opening-fits tables padding blocking opened (sourceOf first) (lent-tells first)) e) same)
 
 -- ---- THEOREM: where the number is right, all_machines_ended is true exactly where every machine is in STATE_END; so it is of every framework
 -- that fits tables that passed.

@@ -15,6 +15,7 @@ use borrow.Author.Tests.{eq-eqb}
 use Rattle.machine.specs.Constants.{machineMax, rowWords, stateEnd}
 use Rattle.machine.specs.Event.{signal}
 use Rattle.machine.specs.Source.{Source, Telling, tapes}
+use Rattle.machine.specs.Words.{words}
 use Rattle.machine.specs.declared.source.Place.{Place}
 use Rattle.tables.specs.First.{orElse}
 use Rattle.tables.specs.Machine.{tablesRefusal}
@@ -22,9 +23,10 @@ use Rattle.tables.specs.Valid.Laws.{zero-valid}
 use Rattle.steps.specs.Limits.{belowActionLimits}
 use Rattle.steps.specs.Transition.{noAction, raise, transition}
 use Rattle.steps.specs.Events.{Tables, Run, Outcome, stop, go, numMachines, noRuntime, runtimeAt, envOf, stored, limitFalls, turn, machineTurn, signalMachine}
-use Rattle.steps.specs.Framework.{rowsIn, statesFit, hasEnded, endedIn, fitsTables, eventsFit, openRun, opening, triggerEvents, batchRefusal, accepted, batch}
-use Rattle.steps.specs.Runs.{either, stored-all, Ok, none-of, openRefusal, opening-ok, batch-ok, event-kept, run-kept}
-use Rattle.steps.specs.Draws.{Refuses, by-any, by-told, by-tapes, Gives}
+use Rattle.steps.specs.Framework.{rowsIn, statesFit, hasEnded, endedIn, fitsTables, eventsFit, openRun, openRefusal, opening, triggerEvents, batchRefusal, refused, accepted, batch}
+use Rattle.steps.specs.Words.{Lent, onTapes, onWords, outsideRefused, batchOn}
+use Rattle.steps.specs.Runs.{either, stored-all, Ok, none-of, opening-ok, batch-ok, event-kept, run-kept}
+use Rattle.steps.specs.Draws.{Refuses, by-any, by-told, by-tapes, by-words, Gives}
 use Rattle.steps.specs.Walk.{Alive, Closed, rowOf}
 use Rattle.steps.specs.Machines.{comesIn, opening-kept, Family, member, InRun, batch-kept}
 use Rattle.steps.specs.Targets.{Inside, Passed, statesIn, some-state, goes-inside, fit-states}
@@ -274,3 +276,14 @@ pub never-18-on-tapes : (fw : Framework) (tables : Tables) (time : ℕ) (es : Li
 never-18-on-tapes fw tables time es chances values out =
     never-18 fw tables time es (tapes chances values) out
     (by-tapes (λ n. n ≡ 18 → ⊥) (λ z. omega (arith, z)) (λ z. omega (arith, z)) chances values)
+
+-- and a batch on words by 24
+pub never-18-on : (fw : Framework) (tables : Tables) (time : ℕ) (es : List ℕ) (lent : Lent) (out : List ℕ)
+    → T (fitsTables tables fw) → batchOn fw tables time es lent out .answer .refusal ≡ 18 → ⊥
+unfolding batchOn
+never-18-on fw tables time es (onTapes chances values) out fits = never-18-on-tapes fw tables time es chances values out fits
+never-18-on fw tables time es (onWords ws) out fits =
+    either (λ b. b .answer .refusal ≡ 18 → ⊥)
+    (outsideRefused (tablesRefusal (tables .machines) (tables .states) (tables .transitions)) tables)
+    (refused fw out 24) (batch fw tables time es (words ws) out) (λ z. omega (arith, z))
+    (never-18 fw tables time es (words ws) out (by-words (λ n. n ≡ 18 → ⊥) (λ z. omega (arith, z)) ws) fits)

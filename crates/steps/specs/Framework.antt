@@ -125,10 +125,15 @@ openedBy (go x) = record {
   framework = x .framework;
 }
 
+-- the framework's fractions, then the tables
+abbrev pub openRefusal : Tables → Float → Float → ℕ
+openRefusal T padding blocking =
+    orElse (fractionsRefusal padding blocking) (tablesRefusal (T .machines) (T .states) (T .transitions))
+
 -- Framework::new
 unfoldable pub opening : Tables → Float → Float → ℕ → Source Place → Opened
 opening T padding blocking time source =
-    let n = orElse (fractionsRefusal padding blocking) (tablesRefusal (T .machines) (T .states) (T .transitions)) in
+    let n = openRefusal T padding blocking in
     cond (eqb n 0) (openedBy (openRun T padding blocking time source)) (openedBy (stop n))
 
 -- ---- what a batch refuses before it runs

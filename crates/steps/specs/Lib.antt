@@ -3,6 +3,8 @@ pub mod Limits
 pub mod Transition
 pub mod Events
 pub mod Framework
+pub mod Words
+pub mod Play
 pub mod Runs
 pub mod Draws
 pub mod Walk

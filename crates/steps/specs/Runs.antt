@@ -15,10 +15,8 @@ use Rattle.machine.specs.Source.{Source}
 use Rattle.machine.specs.Event.{normalSent, paddingSent}
 use Rattle.machine.specs.declared.source.Place.{Place}
 use Rattle.tables.specs.First.{orElse}
-use Rattle.tables.specs.Framework.{fractionsRefusal}
-use Rattle.tables.specs.Machine.{tablesRefusal}
 use Rattle.steps.specs.Events.{Tables, Run, Outcome, stop, go, andThen, each, numMachines, ownOnly, machineTurn, account, firstFor, turnsFor, blockedNow, processEvent, kindAt, machineAt, eventTurn, pendingOf, unsignalled, signalMachine, signalTurn, lastSignal, signals}
-use Rattle.steps.specs.Framework.{openRun, openedBy, opening, begin, triggerEvents, batchRefusal, Batch, refused, accepted, concluded, batch}
+use Rattle.steps.specs.Framework.{openRun, openedBy, openRefusal, opening, begin, triggerEvents, batchRefusal, Batch, refused, accepted, concluded, batch}
 use Rattle.steps.specs.declared.Framework.{Framework}
 use Rattle.steps.specs.declared.Opened.{Opened}
 
@@ -182,10 +180,6 @@ none-of a b h = by (eqb a 0) (eqb-true a 0) (eqb-false a 0) h
     by false e n h = absurd (n refl h)
 
 -- ---- an opening and a batch: refused by a check, stopped in the run, or accepted
-abbrev pub openRefusal : Tables → Float → Float → ℕ
-openRefusal T padding blocking =
-    orElse (fractionsRefusal padding blocking) (tablesRefusal (T .machines) (T .states) (T .transitions))
-
 module _ (R : ℕ → Type 0) (Q : Run → Type 0) where
   pub opening-ok : (P : Opened → Type 0) (T : Tables) (padding blocking : Float) (time : ℕ) (D : Source Place)
       → (openRefusal T padding blocking ≡ 0 → Ok R Q (openRun T padding blocking time D))

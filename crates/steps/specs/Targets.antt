@@ -79,7 +79,7 @@ abbrev pub statesIn : Tables → ℕ → ℕ
 statesIn tables i = machineWord (tables .machines) i numStates
 
 module _ (tables : Tables) (valid : Passed tables) (i : ℕ) (h : i < rowsIn (tables .machines)) where
-  word : (k : ℕ) → k < machineWords → getD (rowsOf machineWords (tables .machines) i 1) k 0 ≡ machineWord (tables .machines) i k
+  pub word : (k : ℕ) → k < machineWords → getD (rowsOf machineWords (tables .machines) i 1) k 0 ≡ machineWord (tables .machines) i k
   unfolding rowsOf
   word k l =
       getD-take (1 * machineWords) (drop (i * machineWords) (tables .machines)) k 0 l ∙ getD-drop (i * machineWords) (tables .machines) k 0

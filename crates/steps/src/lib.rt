@@ -201,3 +201,20 @@ pub struct Answer {
     pub value_used: u64,
     pub framework: Framework,
 }
+
+// The answer of an opening from raw words: the refusal or 0, how many words it took, and the framework.
+#[repr(C)]
+pub struct OpenedWords {
+    pub refusal: u64,
+    pub words_used: u64,
+    pub framework: Framework,
+}
+
+// The answer of a batch from raw words: the refusal or 0, how many rows it wrote, how many words it took, and the framework.
+#[repr(C)]
+pub struct AnswerWords {
+    pub refusal: u64,
+    pub actions: u64,
+    pub words_used: u64,
+    pub framework: Framework,
+}

@@ -5,3 +5,4 @@ pub mod Machine
 pub mod Framework
 pub mod Marks
 pub mod Valid
+pub mod Outside

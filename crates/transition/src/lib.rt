@@ -32,7 +32,7 @@ ghost use mathlib.Core.Bool.{not, _&&_};
 ghost use lib.Dec.{eqb};
 ghost use Prim.Native.Nat.{ℕ, _≤_, _<_};
 ghost use Rattle.machine.specs.Constants.{stateEnd};
-ghost use Rattle.machine.specs.Source.{tapes};
+ghost use Rattle.machine.specs.Words.{lent};
 ghost use Rattle.samples.specs.Action.{hasLimit};
 ghost use Rattle.steps.specs.Transition as Spec;
 ghost use Rattle.steps.specs.Transition.{env, left};
@@ -49,6 +49,7 @@ fn update_counter(
     transitions: &[u64],
     chances: &[f32],
     values: &[f64],
+    words: &[u64],
     c: Context,
     row: &[u64],
     r: MachineRuntime,
@@ -56,12 +57,12 @@ fn update_counter(
     p: TriggerAction,
 ) -> Updated
     requires { ⌜ c .machine < 16 ⌝ }
-    ensures { λ x. ⌜ ((n : ℕ) → left s ≤ n → x ≡ Spec.updateCounterAt n (env (now (rows .entry)) (now (transitions .entry)) (tapes (now (chances .entry)) (now (values .entry))) c) (now (row .entry)) r s p) ⌝ }
+    ensures { λ x. ⌜ ((n : ℕ) → left s ≤ n → x ≡ Spec.updateCounterAt n (env (now (rows .entry)) (now (transitions .entry)) (lent (now (chances .entry)) (now (values .entry)) (now (words .entry))) c) (now (row .entry)) r s p) ⌝ }
 {
     let old = r.counters;
     let zeroed = s.zeroed;
     let at = s.place;
-    let tallied = update_counters(row, values, old, zeroed, at);
+    let tallied = update_counters(row, values, words, old, zeroed, at);
     match tallied {
         Tallied::Refused(n) => Updated::Refused(n),
         Tallied::At(t) => {
@@ -74,6 +75,7 @@ fn update_counter(
                     transitions,
                     chances,
                     values,
+                    words,
                     c,
                     COUNTER_ZERO,
                     q,
@@ -93,6 +95,7 @@ pub fn going(
     transitions: &[u64],
     chances: &[f32],
     values: &[f64],
+    words: &[u64],
     c: Context,
     chosen: Next,
     r: MachineRuntime,
@@ -100,7 +103,7 @@ pub fn going(
     p: TriggerAction,
 ) -> Stepped
     requires { ⌜ c .machine < 16 ⌝ }
-    ensures { λ x. ⌜ ((n : ℕ) → left s ≤ n → x ≡ goingAt n (env (now (rows .entry)) (now (transitions .entry)) (tapes (now (chances .entry)) (now (values .entry))) c) chosen r s p) ⌝ }
+    ensures { λ x. ⌜ ((n : ℕ) → left s ≤ n → x ≡ goingAt n (env (now (rows .entry)) (now (transitions .entry)) (lent (now (chances .entry)) (now (values .entry)) (now (words .entry))) c) chosen r s p) ⌝ }
 {
     let Next::State(next) = chosen else {
         return done(r, s, p, false);
@@ -115,14 +118,25 @@ pub fn going(
     }
     let row = state_row(rows, next);
     let place = s.place;
-    let entered = enter(row, values, r, next, place);
+    let entered = enter(row, values, words, r, next, place);
     match entered {
         Entered::Refused(n) => Stepped::Refused(n),
         Entered::In(q, at) => {
             let mut t = s;
             t.place = at;
-            let updated = update_counter(rows, transitions, chances, values, c, row, q, t, p);
-            finished(row, values, c, q, r.current_state, updated)
+            let updated = update_counter(
+                rows,
+                transitions,
+                chances,
+                values,
+                words,
+                c,
+                row,
+                q,
+                t,
+                p,
+            );
+            finished(row, values, words, c, q, r.current_state, updated)
         }
     }
 }
@@ -132,6 +146,7 @@ pub fn transition(
     transitions: &[u64],
     chances: &[f32],
     values: &[f64],
+    words: &[u64],
     c: Context,
     event: u64,
     r: MachineRuntime,
@@ -139,16 +154,24 @@ pub fn transition(
     p: TriggerAction,
 ) -> Stepped
     requires { ⌜ event < 13 ⌝ ∗ ⌜ c .machine < 16 ⌝ }
-    ensures { λ x. ⌜ ((n : ℕ) → left s ≤ n → x ≡ Spec.transitionAt n (env (now (rows .entry)) (now (transitions .entry)) (tapes (now (chances .entry)) (now (values .entry))) c) event r s p) ⌝ }
+    ensures { λ x. ⌜ ((n : ℕ) → left s ≤ n → x ≡ Spec.transitionAt n (env (now (rows .entry)) (now (transitions .entry)) (lent (now (chances .entry)) (now (values .entry)) (now (words .entry))) c) event r s p) ⌝ }
 {
     let at = s.place;
-    let choice = choose(rows, transitions, chances, r.current_state, event, at);
+    let choice = choose(
+        rows,
+        transitions,
+        chances,
+        words,
+        r.current_state,
+        event,
+        at,
+    );
     match choice {
         Choice::Refused(n) => Stepped::Refused(n),
         Choice::Chosen(next, taken) => {
             let mut t = s;
             t.place = taken;
-            going(rows, transitions, chances, values, c, next, r, t, p)
+            going(rows, transitions, chances, values, words, c, next, r, t, p)
         }
     }
 }
@@ -170,11 +193,12 @@ fn decrement_limit(
     transitions: &[u64],
     chances: &[f32],
     values: &[f64],
+    words: &[u64],
     c: Context,
     d: Step,
 ) -> Stepped
     requires { ⌜ c .machine < 16 ⌝ }
-    ensures { λ x. ⌜ x ≡ Spec.decrementLimit (env (now (rows .entry)) (now (transitions .entry)) (tapes (now (chances .entry)) (now (values .entry))) c) (d .runtime) (d .shared) (d .action) ⌝ }
+    ensures { λ x. ⌜ x ≡ Spec.decrementLimit (env (now (rows .entry)) (now (transitions .entry)) (lent (now (chances .entry)) (now (values .entry)) (now (words .entry))) c) (d .runtime) (d .shared) (d .action) ⌝ }
 {
     let mut e = d;
     let limit = numbers::saturating_sub(d.runtime.state_limit, 1);
@@ -192,6 +216,7 @@ fn decrement_limit(
             transitions,
             chances,
             values,
+            words,
             c,
             LIMIT_REACHED,
             r,
@@ -219,19 +244,20 @@ pub fn after_transition(
     transitions: &[u64],
     chances: &[f32],
     values: &[f64],
+    words: &[u64],
     c: Context,
     falls: bool,
     x: Stepped,
 ) -> Stepped
     requires { ⌜ c .machine < 16 ⌝ }
-    ensures { λ y. ⌜ y ≡ Events.afterTransition (env (now (rows .entry)) (now (transitions .entry)) (tapes (now (chances .entry)) (now (values .entry))) c) falls x ⌝ }
+    ensures { λ y. ⌜ y ≡ Events.afterTransition (env (now (rows .entry)) (now (transitions .entry)) (lent (now (chances .entry)) (now (values .entry)) (now (words .entry))) c) falls x ⌝ }
 {
     if falls {
         match x {
             Stepped::Refused(n) => return Stepped::Refused(n),
             Stepped::Done(d) => {
                 if stays(d.changed, d.runtime.current_state) {
-                    return decrement_limit(rows, transitions, chances, values, c, d);
+                    return decrement_limit(rows, transitions, chances, values, words, c, d);
                 }
                 return Stepped::Done(d);
             }

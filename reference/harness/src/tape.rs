@@ -24,13 +24,60 @@ fn stop(refusal: u64, draw: &'static str) -> ! {
     resume_unwind(Box::new(Stopped(refusal)))
 }
 
+/// Makes up draws as the Rust asks for them; none where it has no more.
+pub trait Inventor {
+    fn chance(&mut self) -> Option<f32>;
+    fn uniform(&mut self, low: f64, high: f64) -> Option<f64>;
+    fn outside(&mut self) -> Option<f64>;
+}
+
+/// Draws in range, without end.
+impl Inventor for Random {
+    fn chance(&mut self) -> Option<f32> {
+        Some(Random::chance(self))
+    }
+
+    fn uniform(&mut self, low: f64, high: f64) -> Option<f64> {
+        Some(self.within(low, high))
+    }
+
+    fn outside(&mut self) -> Option<f64> {
+        Some(Random::outside(self))
+    }
+}
+
 #[derive(Default)]
 struct Draws {
     chances: Vec<u64>,
     values: Vec<u64>,
     chances_taken: usize,
     values_taken: usize,
-    inventor: Option<Random>,
+    inventor: Option<Box<dyn Inventor>>,
+}
+
+impl Draws {
+    /// The next chance on the tape, or one that is made up and kept there.
+    fn next_chance(&mut self) -> Option<f32> {
+        if self.chances_taken == self.chances.len() {
+            let drawn = self.inventor.as_mut()?.chance()?;
+            self.chances.push(drawn.to_bits() as u64);
+        }
+        self.chances_taken += 1;
+        Some(f32::from_bits(self.chances[self.chances_taken - 1] as u32))
+    }
+
+    /// The next value on the tape, or one that is made up by `invented` and kept there.
+    fn next_value(
+        &mut self,
+        invented: impl FnOnce(&mut dyn Inventor) -> Option<f64>,
+    ) -> Option<f64> {
+        if self.values_taken == self.values.len() {
+            let drawn = invented(self.inventor.as_deref_mut()?)?;
+            self.values.push(drawn.to_bits());
+        }
+        self.values_taken += 1;
+        Some(f64::from_bits(self.values[self.values_taken - 1]))
+    }
 }
 
 /// A handle to both tapes. Its copies share the places up to which the tapes are read.
@@ -50,9 +97,9 @@ impl Tape {
         Tape(Rc::new(RefCell::new(draws)))
     }
 
-    /// A tape that makes up each draw asked of it, in range, and keeps it.
-    pub fn inventing(random: Random) -> Tape {
-        let draws = Draws { inventor: Some(random), ..Draws::default() };
+    /// A tape that makes up each draw asked of it, and keeps it.
+    pub fn inventing(inventor: impl Inventor + 'static) -> Tape {
+        let draws = Draws { inventor: Some(Box::new(inventor)), ..Draws::default() };
         Tape(Rc::new(RefCell::new(draws)))
     }
 
@@ -62,11 +109,15 @@ impl Tape {
         (draws.chances_taken, draws.values_taken)
     }
 
-    /// Puts both tapes back.
+    /// Puts both tapes back. What was made up since then is dropped.
     pub fn back_to(&self, (chances, values): (usize, usize)) {
         let mut draws = self.0.borrow_mut();
         draws.chances_taken = chances;
         draws.values_taken = values;
+        if draws.inventor.is_some() {
+            draws.chances.truncate(chances);
+            draws.values.truncate(values);
+        }
     }
 
     /// Both tapes as words.
@@ -75,36 +126,20 @@ impl Tape {
         (draws.chances.clone(), draws.values.clone())
     }
 
-    fn value(&self, draw: &'static str, invented: impl FnOnce(&mut Random) -> f64) -> f64 {
-        let mut draws = self.0.borrow_mut();
-        if draws.values_taken == draws.values.len() {
-            let Some(inventor) = &mut draws.inventor else {
-                drop(draws);
-                stop(16, draw);
-            };
-            let word = invented(inventor).to_bits();
-            draws.values.push(word);
-        }
-        draws.values_taken += 1;
-        f64::from_bits(draws.values[draws.values_taken - 1])
+    fn value(
+        &self,
+        draw: &'static str,
+        invented: impl FnOnce(&mut dyn Inventor) -> Option<f64>,
+    ) -> f64 {
+        let drawn = self.0.borrow_mut().next_value(invented);
+        drawn.unwrap_or_else(|| stop(16, draw))
     }
 }
 
 impl RngCore for Tape {
     fn chance(&mut self) -> f32 {
-        let chance = {
-            let mut draws = self.0.borrow_mut();
-            if draws.chances_taken == draws.chances.len() {
-                let Some(inventor) = &mut draws.inventor else {
-                    drop(draws);
-                    stop(16, "chance");
-                };
-                let word = inventor.chance().to_bits() as u64;
-                draws.chances.push(word);
-            }
-            draws.chances_taken += 1;
-            f32::from_bits(draws.chances[draws.chances_taken - 1] as u32)
-        };
+        let drawn = self.0.borrow_mut().next_chance();
+        let chance = drawn.unwrap_or_else(|| stop(16, "chance"));
         if !(0.0..1.0).contains(&chance) {
             stop(17, "chance");
         }
@@ -112,7 +147,7 @@ impl RngCore for Tape {
     }
 
     fn uniform(&mut self, low: f64, high: f64) -> f64 {
-        let value = self.value("Uniform", |random| random.within(low, high));
+        let value = self.value("Uniform", |inventor| inventor.uniform(low, high));
         if !(low..high).contains(&value) {
             stop(17, "Uniform");
         }
@@ -120,6 +155,6 @@ impl RngCore for Tape {
     }
 
     fn outside(&mut self) -> f64 {
-        self.value("outside", Random::outside)
+        self.value("outside", |inventor| inventor.outside())
     }
 }

@@ -8,32 +8,11 @@ use maybenot_link::counter::{Counter, Operation};
 use maybenot_link::dist::{Dist, DistType};
 use maybenot_link::event::Event;
 use maybenot_link::state::{State, Trans};
-use maybenot_link::sys::{self, MACHINE_WORDS};
+use maybenot_link::sys::{self, FRAMEWORK_WORDS, MACHINE_WORDS, MAX_MACHINES};
 use maybenot_link::{Draws, Machine, MachineId, Timer, TriggerEvent};
 pub use random::Plain as Random;
-use std::collections::BTreeMap;
 
-/// What occurred, and how often.
-#[derive(Debug, Default)]
-pub struct Seen(BTreeMap<&'static str, usize>);
-
-impl Seen {
-    /// Counts what occurred; what did not is known from then on.
-    pub fn note(&mut self, what: &'static str, occurred: bool) {
-        *self.0.entry(what).or_default() += usize::from(occurred);
-    }
-
-    pub fn times(&self, what: &'static str) -> usize {
-        self.0[what]
-    }
-
-    /// All that was noted occurred more than so many times.
-    pub fn often(&self, least: usize) {
-        for (what, times) in &self.0 {
-            assert!(*times > least, "{what}: {:?}", self.0);
-        }
-    }
-}
+pub mod seen;
 
 /// What `reference/kept` judges of a framework.
 pub fn plain(framework: &sys::Framework) -> kept::Framework {
@@ -60,6 +39,17 @@ pub fn word(random: &mut Random) -> u64 {
         4 => random.unit().to_bits(),
         _ => random.word() >> random.below(64),
     }
+}
+
+/// The framework with some words overwritten.
+pub fn overwritten(random: &mut Random, framework: &sys::Framework) -> sys::Framework {
+    let mut words = framework.to_words();
+    for _ in 0..=random.below(3) {
+        // of a machine, or behind the machines
+        let at = [random.below(FRAMEWORK_WORDS), 9 * MAX_MACHINES + random.below(12)];
+        words[at[random.below(2)]] = word(random);
+    }
+    sys::Framework::from_words(words)
 }
 
 /// The generator as a source of words, with the draws that follow from them.

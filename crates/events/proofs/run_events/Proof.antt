@@ -6,7 +6,7 @@ use mathlib.Core.Path.{_≡_, refl, sym, ap, _∙_}
 use native.Mathlib.Omega.{arith}
 use Rattle.machine.specs.Constants.{counterNum}
 use Rattle.machine.specs.Event.{timerEndKind}
-use Rattle.machine.specs.Source.{tapes}
+use Rattle.machine.specs.Words.{lent}
 use Rattle.steps.specs.Events.{each, eventTurn}
 use Rattle.steps.specs.Framework.{begin}
 use Rattle.steps.specs.declared.Ran.{Ran}
@@ -20,14 +20,14 @@ use Rattle.events.proofs.run_events.Statement.{statement}
 use Rattle.events.proofs.run_events.Tie as tie
 
 abbrev Inv-loop : tie.InvT-loop
-Inv-loop fw machines states transitions time events chances values f₀ actions₀ s₀ n i₀ m₀ end₀ kind₀ machine₀ blocked₀ f actions s i m end kind machine blocked =
+Inv-loop fw machines states transitions time events chances values words f₀ actions₀ s₀ n i₀ m₀ end₀ kind₀ machine₀ blocked₀ f actions s i m end kind machine blocked =
     let T = tables machines states transitions in
-    let D = tapes chances values in
+    let D = lent chances values words in
     (i ≤ n) × (kind ≤ timerEndKind) × (m < end → end ≤ 16) × (f .machines ≡ fw .machines) ×
     Ahead (each (eventTurn T D events) n 0 (begin fw time)) T D events n kind machine blocked m end i f actions s
 
 abbrev μ-loop : tie.MeasureT-loop
-μ-loop fw machines states transitions time events chances values f₀ actions₀ s₀ n i₀ m₀ end₀ kind₀ machine₀ blocked₀ f actions s i m end kind machine blocked =
+μ-loop fw machines states transitions time events chances values words f₀ actions₀ s₀ n i₀ m₀ end₀ kind₀ machine₀ blocked₀ f actions s i m end kind machine blocked =
     (n - i) * 17 + (end - m)
 
 no-action-requires : tie.Need-no-action-requires Inv-loop μ-loop
@@ -408,10 +408,16 @@ returns-3 c =
     (rw (ahead-ends (loop .inv .4) (if1 .left) (if3 .taken)), loop .inv .3)
 
 mul-kind : tie.Need-mul-kind Inv-loop μ-loop
-mul-kind c = search needs
+mul-kind c =
+    let if3 = c .if3 in
+    let good = c .before .before .before .before .before .before .before .before .before .before .before .before .good in
+    omega (arith, if3 .left, good .1 .1 .1 .1 .1 .0 .0)
 
 mul-kind-2 : tie.Need-mul-kind-2 Inv-loop μ-loop
-mul-kind-2 c = search needs
+mul-kind-2 c =
+    let if3 = c .if3 in
+    let good = c .before .before .before .before .before .before .before .before .before .before .before .before .good in
+    omega (arith, if3 .left, good .1 .1 .1 .1 .1 .0 .0)
 
 shared-slice-read-kind : tie.Need-shared-slice-read-kind Inv-loop μ-loop
 shared-slice-read-kind c = search needs
@@ -419,19 +425,19 @@ shared-slice-read-kind c = search needs
 mul-machine : tie.Need-mul-machine Inv-loop μ-loop
 mul-machine c =
     let if3 = c .before .if3 in
-    let good = c .before .before .before .before .before .before .before .before .before .before .before .before .good in
+    let good = c .before .before .before .before .before .before .before .before .before .before .before .before .before .good in
     omega (arith, if3 .left, good .1 .1 .1 .1 .1 .0 .0)
 
 add-machine : tie.Need-add-machine Inv-loop μ-loop
 add-machine c =
     let if3 = c .before .if3 in
-    let good = c .before .before .before .before .before .before .before .before .before .before .before .before .good in
+    let good = c .before .before .before .before .before .before .before .before .before .before .before .before .before .good in
     omega (arith, if3 .left, good .1 .1 .1 .1 .1 .0 .0)
 
 mul-machine-2 : tie.Need-mul-machine-2 Inv-loop μ-loop
 mul-machine-2 c =
     let if3 = c .before .if3 in
-    let good = c .before .before .before .before .before .before .before .before .before .before .before .before .good in
+    let good = c .before .before .before .before .before .before .before .before .before .before .before .before .before .good in
     omega (arith, if3 .left, good .1 .1 .1 .1 .1 .0 .0)
 
 shared-slice-read-machine : tie.Need-shared-slice-read-machine Inv-loop μ-loop
@@ -457,7 +463,7 @@ totals-after-requires c κs = search needs
 add-i : tie.Need-add-i Inv-loop μ-loop
 add-i c =
     let if3 = c .before .before .before .before .before .before .before .before .if3 in
-    let good = c .before .before .before .before .before .before .before .before .before .before .before .before .before .before .before .before .before .before .before .good in
+    let good = c .before .before .before .before .before .before .before .before .before .before .before .before .before .before .before .before .before .before .before .before .good in
     omega (arith, if3 .left, good .1 .1 .1 .1 .1 .0 .0)
 
 loop-less-5 : tie.Need-loop-less-5 Inv-loop μ-loop
@@ -477,7 +483,7 @@ loop-again-5 c =
     let if3 = c .before .before .before .before .before .before .before .before .if3 in
     let if1 = c .before .before .before .before .before .before .before .before .before .if1 in
     let loop = c .before .before .before .before .before .before .before .before .before .before .loop in
-    let pre = c .before .before .before .before .before .before .before .before .before .before .before .before .before .before .before .before .before .before .before .pre in (
+    let pre = c .before .before .before .before .before .before .before .before .before .before .before .before .before .before .before .before .before .before .before .before .pre in (
       omega (arith, if3 .left),
       kind-fits _ _ _ (if3 .left) (pre),
       λ h. end-for .ensures .1 .1 (rw (← first-for .ensures) h),

@@ -1,9 +1,10 @@
--- `batch_refusal` meets its contract: the tables first, then 18, 19 and 20.
+-- `batch_refusal` meets its contract: the tables first, then 24 with words, then 18, 19 and 20.
 use borrow.Author.Needs.{needs}
 use mathlib.Core.Path.{refl, sym, _∙_}
 use borrow.Author.Tests.{lt-ltb, le-ltb}
 use Rattle.steps.specs.Framework.{batchRefusal}
-use Rattle.framework.proofs.Checked.{first-is, then-is}
+use Rattle.events.specs.Run.{tables}
+use Rattle.framework.proofs.Checked.{first-is, then-is, outside-never, outside-asked}
 use Rattle.framework.proofs.batch_refusal.Statement.{statement}
 use Rattle.framework.proofs.batch_refusal.Tie as tie
 
@@ -13,58 +14,105 @@ check-tables-requires c κs = search needs
 returns : tie.Need-returns
 unfolding batchRefusal
 returns c =
-    λ fw out says e. c .before .check-tables .ensures
-    ∙ sym (first-is _ _ (λ z. c .if1 .taken (c .before .check-tables .ensures ∙ z)))
+    let args = c .before .before .before .before .before .before .args in
+    let T = tables (args .machines .now) (args .states .now) (args .transitions .now) in
+    λ fw out says e.
+    rw (outside-never (args .raw) T (λ z. c .if1 .taken (c .before .check-tables .ensures ∙ z)))
+    (c .before .check-tables .ensures ∙ sym (first-is _ _ (λ z. c .if1 .taken (c .before .check-tables .ensures ∙ z))))
+
+outside-requires : tie.Need-outside-requires
+outside-requires c κs = search needs
+
+returns-2 : tie.Need-returns-2
+returns-2 c =
+    let at-if1 = c .before .before in
+    let args = at-if1 .before .before .before .before .before .before .args in
+    let T = tables (args .machines .now) (args .states .now) (args .transitions .now) in
+    λ fw out says e.
+    let passed = sym (at-if1 .before .check-tables .ensures) ∙ at-if1 .if1 .left in
+    rw (outside-asked (args .raw) T passed ∙ (sym (c .before .outside .ensures) ∙ c .if2 .taken)) refl
 
 events-fit-requires : tie.Need-events-fit-requires
 events-fit-requires c κs = search needs
 
-mul-if4 : tie.Need-mul-if4
-mul-if4 c = search needs
-
-returns-2 : tie.Need-returns-2
-unfolding batchRefusal
-returns-2 c =
-    let if3 = c .before .if3 in
-    let events-fit = c .before .before .events-fit in
-    let if2 = c .before .before .before .if2 in
-    let if1 = c .before .before .before .before .if1 in
-    let check-tables = c .before .before .before .before .before .check-tables in
-    λ fw out says e.
-    let tables = sym (check-tables .ensures) ∙ if1 .left in
-    rw (then-is _ _ tables, sym (says tables) ∙ if2 .taken, sym (events-fit .ensures) ∙ if3 .taken, e, lt-ltb _ _ (c .if4 .taken)) refl
+mul-if5 : tie.Need-mul-if5
+mul-if5 c = search needs
 
 returns-3 : tie.Need-returns-3
 unfolding batchRefusal
 returns-3 c =
-    let if3 = c .before .if3 in
-    let events-fit = c .before .before .events-fit in
-    let if2 = c .before .before .before .if2 in
-    let if1 = c .before .before .before .before .if1 in
-    let check-tables = c .before .before .before .before .before .check-tables in
+    let at-if4 = c .before in
+    let at-if3 = at-if4 .before .before in
+    let at-if2 = at-if3 .before in
+    let at-outside = at-if2 .before in
+    let at-if1 = at-outside .before in
+    let args = at-if1 .before .before .before .before .before .before .args in
+    let T = tables (args .machines .now) (args .states .now) (args .transitions .now) in
     λ fw out says e.
-    let tables = sym (check-tables .ensures) ∙ if1 .left in
-    rw (then-is _ _ tables, sym (says tables) ∙ if2 .taken, sym (events-fit .ensures) ∙ if3 .taken, e, le-ltb _ _ (c .if4 .left)) refl
+    let passed = sym (at-if1 .before .check-tables .ensures) ∙ at-if1 .if1 .left in
+    rw (
+      outside-asked (args .raw) T passed ∙ (sym (at-outside .outside .ensures) ∙ at-if2 .if2 .left),
+      then-is _ _ passed,
+      sym (says passed) ∙ at-if3 .if3 .taken,
+      sym (at-if4 .before .events-fit .ensures) ∙ at-if4 .if4 .taken,
+      e,
+      lt-ltb _ _ (c .if5 .taken),
+    ) refl
 
 returns-4 : tie.Need-returns-4
 unfolding batchRefusal
 returns-4 c =
-    let events-fit = c .before .events-fit in
-    let if2 = c .before .before .if2 in
-    let if1 = c .before .before .before .if1 in
-    let check-tables = c .before .before .before .before .check-tables in
+    let at-if4 = c .before in
+    let at-if3 = at-if4 .before .before in
+    let at-if2 = at-if3 .before in
+    let at-outside = at-if2 .before in
+    let at-if1 = at-outside .before in
+    let args = at-if1 .before .before .before .before .before .before .args in
+    let T = tables (args .machines .now) (args .states .now) (args .transitions .now) in
     λ fw out says e.
-    let tables = sym (check-tables .ensures) ∙ if1 .left in
-    rw (then-is _ _ tables, sym (says tables) ∙ if2 .taken, sym (events-fit .ensures) ∙ c .if3 .left) refl
+    let passed = sym (at-if1 .before .check-tables .ensures) ∙ at-if1 .if1 .left in
+    rw (
+      outside-asked (args .raw) T passed ∙ (sym (at-outside .outside .ensures) ∙ at-if2 .if2 .left),
+      then-is _ _ passed,
+      sym (says passed) ∙ at-if3 .if3 .taken,
+      sym (at-if4 .before .events-fit .ensures) ∙ at-if4 .if4 .taken,
+      e,
+      le-ltb _ _ (c .if5 .left),
+    ) refl
 
 returns-5 : tie.Need-returns-5
 unfolding batchRefusal
 returns-5 c =
-    let if1 = c .before .if1 in
-    let check-tables = c .before .before .check-tables in
+    let at-if3 = c .before .before in
+    let at-if2 = at-if3 .before in
+    let at-outside = at-if2 .before in
+    let at-if1 = at-outside .before in
+    let args = at-if1 .before .before .before .before .before .before .args in
+    let T = tables (args .machines .now) (args .states .now) (args .transitions .now) in
     λ fw out says e.
-    let tables = sym (check-tables .ensures) ∙ if1 .left in
-    rw (then-is _ _ tables, sym (says tables) ∙ c .if2 .left) refl
+    let passed = sym (at-if1 .before .check-tables .ensures) ∙ at-if1 .if1 .left in
+    rw (
+      outside-asked (args .raw) T passed ∙ (sym (at-outside .outside .ensures) ∙ at-if2 .if2 .left),
+      then-is _ _ passed,
+      sym (says passed) ∙ at-if3 .if3 .taken,
+      sym (c .before .events-fit .ensures) ∙ c .if4 .left,
+    ) refl
+
+returns-6 : tie.Need-returns-6
+unfolding batchRefusal
+returns-6 c =
+    let at-if2 = c .before in
+    let at-outside = at-if2 .before in
+    let at-if1 = at-outside .before in
+    let args = at-if1 .before .before .before .before .before .before .args in
+    let T = tables (args .machines .now) (args .states .now) (args .transitions .now) in
+    λ fw out says e.
+    let passed = sym (at-if1 .before .check-tables .ensures) ∙ at-if1 .if1 .left in
+    rw (
+      outside-asked (args .raw) T passed ∙ (sym (at-outside .outside .ensures) ∙ at-if2 .if2 .left),
+      then-is _ _ passed,
+      sym (says passed) ∙ c .if3 .left,
+    ) refl
 
 pub batch-refusal-spec : {M : Type 1} → statement M
 batch-refusal-spec =
@@ -72,9 +120,11 @@ batch-refusal-spec =
     (tie.spec
     check-tables-requires
     returns
-    events-fit-requires
-    mul-if4
+    outside-requires
     returns-2
+    events-fit-requires
+    mul-if5
     returns-3
     returns-4
-    returns-5)
+    returns-5
+    returns-6)

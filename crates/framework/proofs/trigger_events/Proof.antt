@@ -7,7 +7,7 @@ use Prim.Native.Nat.{_/_}
 use lib.ListN.{length}
 use Rattle.steps.specs.Events.{each, eventTurn, signals}
 use Rattle.steps.specs.Framework.{begin, triggerEvents}
-use Rattle.machine.specs.Source.{tapes}
+use Rattle.machine.specs.Words.{lent}
 use Rattle.events.specs.Run.{tables, runOf, entered}
 use Rattle.steps.specs.declared.Ran.{Ran}
 use Rattle.framework.proofs.Outcomes.{stopped-is, complete-is}
@@ -25,9 +25,9 @@ unfolding triggerEvents
 returns c =
     let run-events = c .before .before .run-events in
     let c₁ = c .before .before .before .before .before .before .before .before in
-    let args = c₁ .before .args in
+    let args = c₁ .before .before .args in
     let T = tables (args .machines .now) (args .states .now) (args .transitions .now) in
-    let D = tapes (args .chances .now) (args .values .now) in
+    let D = lent (args .chances .now) (args .values .now) (args .words .now) in
     let es = args .events .now in
     let ran = each (eventTurn T D es) (length es / 2) 0 (begin (args .fw) (args .time)) in
     let stops = stopped-is (entered (args .fw)) ran _ _
@@ -43,9 +43,9 @@ returns-2 c =
     let enum-told2 = c .before .before .before .enum-told2 in
     let run-events = c .before .before .before .before .before .run-events in
     let c₁ = c .before .before .before .before .before .before .before .before in
-    let args = c₁ .before .before .before .before .args in
+    let args = c₁ .before .before .before .before .before .args in
     let T = tables (args .machines .now) (args .states .now) (args .transitions .now) in
-    let D = tapes (args .chances .now) (args .values .now) in
+    let D = lent (args .chances .now) (args .values .now) (args .words .now) in
     let es = args .events .now in
     let ran = each (eventTurn T D es) (length es / 2) 0 (begin (args .fw) (args .time)) in
     let ends = complete-is (entered (args .fw)) ran _
@@ -73,9 +73,9 @@ returns-3 c =
     let enum-told2 = c₁ .before .before .enum-told2 in
     let run-events = c₁ .before .before .before .before .run-events in
     let c₂ = c₁ .before .before .before .before .before .before .before .before in
-    let args = c₂ .before .before .before .args in
+    let args = c₂ .before .before .before .before .args in
     let T = tables (args .machines .now) (args .states .now) (args .transitions .now) in
-    let D = tapes (args .chances .now) (args .values .now) in
+    let D = lent (args .chances .now) (args .values .now) (args .words .now) in
     let es = args .events .now in
     let ran = each (eventTurn T D es) (length es / 2) 0 (begin (args .fw) (args .time)) in
     let ends = complete-is (entered (args .fw)) ran _
@@ -92,9 +92,9 @@ returns-4 c =
     let enum-told2 = c₁ .enum-told2 in
     let run-events = c₁ .before .before .run-events in
     let c₂ = c₁ .before .before .before .before .before .before .before .before in
-    let args = c₂ .before .args in
+    let args = c₂ .before .before .args in
     let T = tables (args .machines .now) (args .states .now) (args .transitions .now) in
-    let D = tapes (args .chances .now) (args .values .now) in
+    let D = lent (args .chances .now) (args .values .now) (args .words .now) in
     let es = args .events .now in
     let ran = each (eventTurn T D es) (length es / 2) 0 (begin (args .fw) (args .time)) in
     let ends = complete-is (entered (args .fw)) ran _

@@ -25,8 +25,8 @@ use Rattle.tables.specs.Framework.{isFraction, fractionsRefusal}
 use Rattle.tables.specs.Valid.Laws.{zero-valid}
 use Rattle.tables.specs.Machine.{tablesRefusal}
 use Rattle.steps.specs.Events.{Tables, Run, noRuntime, runtimeAt, machineWord}
-use Rattle.steps.specs.Framework.{rowsIn, openRun, opening}
-use Rattle.steps.specs.Runs.{stored-all, Ok, ok-any, none-of, openRefusal, opening-ok}
+use Rattle.steps.specs.Framework.{rowsIn, openRun, openRefusal, opening}
+use Rattle.steps.specs.Runs.{stored-all, Ok, ok-any, none-of, opening-ok}
 use Rattle.steps.specs.Draws.{by-told}
 use Rattle.steps.specs.Machines.{comesIn, opening-kept}
 use Rattle.steps.specs.Budget.{empty}

@@ -1,5 +1,5 @@
--- The premises are met, also by a list with refused batches in it, and the budgets are reached. Three lists
--- over one machine under a fraction of a quarter, for itself and for the framework: with allowance 0 it has
+-- The premises are met, also by a list with batches on tapes and on words and refused ones in it, and the budgets
+-- are reached. Three lists over one machine under a fraction of a quarter, for itself and for the framework: with allowance 0 it has
 -- sent 2 of 2 packets after the first, which is A + 2, and 3 of 7 after the second; with allowance 2 it has
 -- sent 3 of 3 after the third. So the claim would be false with P - 1 for P - 2, with A for A + 2, and with
 -- M for 4 × M. Assumes nothing.
@@ -11,24 +11,26 @@ use mathlib.Core.Logic.{_⊎_, inl, inr}
 use mathlib.Core.Path.{_≡_, refl, subst}
 use lib.Dec.{T, ltb, eqb, ltb→lt, eqb-refl, T-not}
 use lib.ListN.{replicate}
-use lib.Ieee.{Float, ofBits, ofInt, add, sub, div, lt, le, eq}
+use lib.Ieee.{ofBits, ofInt, add, sub, div, lt, le, eq}
 use Rattle.numbers.specs.Finite.{zeroF, isFinite}
 use Rattle.numbers.specs.Fraction.{reached, in1074}
 use Rattle.numbers.specs.Round.{roundAway}
 use Rattle.machine.specs.Constants.{action, timeout, sendPadding}
 use Rattle.machine.specs.Event.{eventOf, normalSent, paddingSent, tunnelSent}
-use Rattle.machine.specs.Source.{tapes, tapes-tell, chanceDraw}
+use Rattle.machine.specs.Source.{chanceDraw}
 use Rattle.machine.specs.State.{rowsOf, walk, sampleState}
 use Rattle.samples.specs.Dist.{distType, distAt, validUniform, validate, uniformDraw, distSample, orZero, capped, adjusted, sample}
 use Rattle.samples.specs.Action.{sampleTimeout, sampleDuration, sampleLimit, hasLimit}
 use Rattle.tables.specs.First.{orElse, firstRefusal}
 use Rattle.tables.specs.State.{eventsRefusal, pairRefusal, rowRefusal, sumRefusal, transitionRefusal, isTarget, improbable, seenIn, sumFrom, codesUnknown, actionUnknown, commonUnknown, neededUnknown, counterUnknown, distsInvalid, actionInvalid, counterInvalid, invalid, stateRefusal}
 use Rattle.tables.specs.Machine.{beyondFraction, eachState, statesRefusal, machineRefusal, wholeTables, tablesRefusal}
+use Rattle.tables.specs.Outside.{stateOutside, statesOutside, machinesOutside, drawsOutside}
 use Rattle.tables.specs.Framework.{isFraction, fractionsRefusal}
 use Rattle.steps.specs.Limits.{belowFraction, belowLimitPadding, belowActionLimits}
 use Rattle.steps.specs.Transition.{enter, scheduleAction, updateOne, tallyA, tallyB, updateCounters, updateCounter, finish, transitionBy, decrementLimit}
 use Rattle.steps.specs.Events.{Tables, each, countsAfter, blockedFor, totalsAfter, turn, machineTurn, processEvent, signals}
 use Rattle.steps.specs.Framework.{startLimit, openMachine, opening, statesFit, endedIn, fitsTables, kindsFit, eventsFit, batchRefusal, triggerEvents, actionRows, batch}
+use Rattle.steps.specs.Words.{Lent, onTapes, onWords, openingOn, batchOn}
 use Rattle.steps.specs.Example.{stateWith, pairCount, quarter32, one32, quarter64, f32, f64}
 use Rattle.steps.specs.Budget.{Call, refusalOf, frameworkOf, Ledger, empty, ledger, Lists, allowance, sum}
 use Rattle.steps.specs.declared.Framework.{Framework}
@@ -38,32 +40,43 @@ use Rattle.steps.specs.declared.Opened.{Opened}
 abbrev onTunnelSent : ℕ × ℕ
 onTunnelSent = (pairCount tunnelSent, 1)
 
-abbrev tables : ℕ → Tables
-tables allowed = record {
+-- with a timeout of this kind: 1 is Uniform, 2 drawn outside
+abbrev tablesOf : ℕ → ℕ → Tables
+tablesOf allowed kind = record {
   machines = allowed ∷ quarter64 ∷ 0 ∷ 0 ∷ 0 ∷ 1 ∷ [];
-  states = stateWith (onTunnelSent ∷ (action, sendPadding) ∷ (timeout, 1) ∷ []);
+  states = stateWith (onTunnelSent ∷ (action, sendPadding) ∷ (timeout, kind) ∷ []);
   transitions = 0 ∷ one32 ∷ [];
 }
 
+abbrev tables : ℕ → Tables
+tables allowed = tablesOf allowed 1
+
 abbrev opens : ℕ → Opened
-opens allowed = opening (tables allowed) (f64 quarter64) zeroF 0 (tapes [] [])
+opens allowed = openingOn (tables allowed) (f64 quarter64) zeroF 0 (onTapes [] [])
+
+-- the same on words
+abbrev opensOnWords : ℕ → Opened
+opensOnWords allowed = openingOn (tables allowed) (f64 quarter64) zeroF 0 (onWords [])
 
 -- ---- calls with these events, and with a chance draw or without
-abbrev call : Tables → List ℕ → List Float → Call
-call lent events chances = record {
-  tables = lent;
+abbrev call : Tables → List ℕ → Lent → Call
+call tables events lent = record {
+  tables = tables;
   time = 0;
   events = events;
-  source = tapes chances [];
-  tells = tapes-tell chances [];
+  lent = lent;
   out = replicate 6 0;
 }
 
 abbrev drawing : ℕ → List ℕ → Call
-drawing allowed events = call (tables allowed) events (f32 quarter32 ∷ [])
+drawing allowed events = call (tables allowed) events (onTapes (f32 quarter32 ∷ []) [])
 
 abbrev drawless : ℕ → List ℕ → Call
-drawless allowed events = call (tables allowed) events []
+drawless allowed events = call (tables allowed) events (onTapes [] [])
+
+-- from one word, with a timeout of this kind
+abbrev fromWord : ℕ → List ℕ → Call
+fromWord kind events = call (tablesOf 0 kind) events (onWords (0 ∷ []))
 
 abbrev tunnel : List ℕ
 tunnel = tunnelSent ∷ 0 ∷ []
@@ -78,12 +91,14 @@ padding = paddingSent ∷ 0 ∷ []
 abbrev twice : List Call
 twice = drawing 0 tunnel ∷ drawing 0 (tunnel ++ padding) ∷ drawless 0 padding ∷ []
 
--- the same after 1 of 5, with two calls that are refused: for want of a draw, and for other tables
+-- the same after 1 of 5, on tapes and on words, with three calls that are refused: for want of a draw, for
+-- other tables, and on words for a distribution drawn outside
 abbrev refusedToo : List Call
 refusedToo =
     drawing 0 tunnel ∷ drawless 0 (tunnel ++ padding ++ padding)
-    ∷ drawing 0 (padding ++ normal ++ normal ++ normal ++ normal ++ tunnel)
-    ∷ call (record { machines = []; states = []; transitions = [] }) (padding ++ padding) []
+    ∷ fromWord 1 (padding ++ normal ++ normal ++ normal ++ normal ++ tunnel)
+    ∷ call (record { machines = []; states = []; transitions = [] }) (padding ++ padding) (onTapes [] [])
+    ∷ fromWord 2 (padding ++ padding)
     ∷ drawing 0 (tunnel ++ padding) ∷ drawless 0 padding ∷ []
 
 -- under an allowance of 2
@@ -118,10 +133,11 @@ more : {A : Type 0} → normalSent ≡ paddingSent → A
 more = unlike normalSent paddingSent tt
 
 pub lead :
-    Leads 0 twice (0 ∷ 0 ∷ 0 ∷ []) 2 0 × Leads 0 refusedToo (0 ∷ 16 ∷ 0 ∷ 18 ∷ 0 ∷ 0 ∷ []) 3 4
-    × Leads 2 allowedTwo (0 ∷ 0 ∷ 0 ∷ 0 ∷ []) 3 0
+    Leads 0 twice (0 ∷ 0 ∷ 0 ∷ []) 2 0 × Leads 0 refusedToo (0 ∷ 16 ∷ 0 ∷ 18 ∷ 24 ∷ 0 ∷ 0 ∷ []) 3 4
+    × Leads 2 allowedTwo (0 ∷ 0 ∷ 0 ∷ 0 ∷ []) 3 0 × (opensOnWords 0 ≡ opens 0) × (opensOnWords 2 ≡ opens 2)
 unfolding
-    Lists ledger opening fractionsRefusal isFraction openMachine startLimit sampleLimit hasLimit batch
+    Lists ledger openingOn batchOn drawsOutside machinesOutside statesOutside stateOutside
+    opening fractionsRefusal isFraction openMachine startLimit sampleLimit hasLimit batch
     batchRefusal fitsTables statesFit endedIn eventsFit kindsFit tablesRefusal orElse firstRefusal wholeTables
     machineRefusal beyondFraction statesRefusal eachState stateRefusal eventsRefusal pairRefusal
     rowRefusal sumRefusal transitionRefusal isTarget improbable seenIn sumFrom codesUnknown
@@ -152,7 +168,10 @@ lead =
             unlike 16 0 tt,
             (
               (λ e. (refl, (spent, (more, (more, (more, (more, (free, tt)))))))),
-              (unlike 18 0 tt, ((λ e. (refl, (free, (spent, tt)))), ((λ e. (refl, (spent, tt))), tt))),
+              (
+                unlike 18 0 tt,
+                (unlike 24 0 tt, ((λ e. (refl, (free, (spent, tt)))), ((λ e. (refl, (spent, tt))), tt))),
+              ),
             ),
           ),
         ),
@@ -175,6 +194,8 @@ lead =
         refl,
         refl,
       ),
+      refl,
+      refl,
     )
 
 -- ---- so the claim would be false with less

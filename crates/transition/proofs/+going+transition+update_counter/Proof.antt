@@ -34,43 +34,43 @@ use Rattle.moves.proofs.step.raise.Reads as raise-reads
 use Rattle.transition.proofs.+going+transition+update_counter.{statement}
 use Rattle.transition.proofs.+going+transition+update_counter.Tie.{close}
 
-abbrev μ-going : Measures 4 going-kinds.ps ℕ
-μ-going κs a = left (a .1 .1 .1 .1 .1 .1 .1 .0) * 3 + 1
+abbrev μ-going : Measures 5 going-kinds.ps ℕ
+μ-going κs a = left (a .1 .1 .1 .1 .1 .1 .1 .1 .0) * 3 + 1
 
-abbrev μ-transition : Measures 4 transition-kinds.ps ℕ
-μ-transition κs a = left (a .1 .1 .1 .1 .1 .1 .1 .0) * 3 + 2
+abbrev μ-transition : Measures 5 transition-kinds.ps ℕ
+μ-transition κs a = left (a .1 .1 .1 .1 .1 .1 .1 .1 .0) * 3 + 2
 
-abbrev μ-update-counter : Measures 5 update-counter-kinds.ps ℕ
-μ-update-counter κs a = left (a .1 .1 .1 .1 .1 .1 .1 .0) * 3
+abbrev μ-update-counter : Measures 6 update-counter-kinds.ps ℕ
+μ-update-counter κs a = left (a .1 .1 .1 .1 .1 .1 .1 .1 .0) * 3
 
-abbrev going-at : ℕ → In 4 going-kinds.ps
-going-at t = and 4 going-kinds.ps (is 4 going-kinds.ps μ-going t) going.Pre
+abbrev going-at : ℕ → In 5 going-kinds.ps
+going-at t = and 5 going-kinds.ps (is 5 going-kinds.ps μ-going t) going.Pre
 
-abbrev going-below : ℕ → In 4 going-kinds.ps
-going-below t = and 4 going-kinds.ps (falls 4 going-kinds.ps _<_ μ-going t) going.Pre
+abbrev going-below : ℕ → In 5 going-kinds.ps
+going-below t = and 5 going-kinds.ps (falls 5 going-kinds.ps _<_ μ-going t) going.Pre
 
-abbrev transition-at : ℕ → In 4 transition-kinds.ps
+abbrev transition-at : ℕ → In 5 transition-kinds.ps
 transition-at t =
-    and 4 transition-kinds.ps (is 4 transition-kinds.ps μ-transition t) transition.Pre
+    and 5 transition-kinds.ps (is 5 transition-kinds.ps μ-transition t) transition.Pre
 
-abbrev transition-below : ℕ → In 4 transition-kinds.ps
+abbrev transition-below : ℕ → In 5 transition-kinds.ps
 transition-below t =
-    and 4 transition-kinds.ps (falls 4 transition-kinds.ps _<_ μ-transition t) transition.Pre
+    and 5 transition-kinds.ps (falls 5 transition-kinds.ps _<_ μ-transition t) transition.Pre
 
-abbrev update-counter-at : ℕ → In 5 update-counter-kinds.ps
+abbrev update-counter-at : ℕ → In 6 update-counter-kinds.ps
 update-counter-at t =
     and
-    5
+    6
     update-counter-kinds.ps
-    (is 5 update-counter-kinds.ps μ-update-counter t)
+    (is 6 update-counter-kinds.ps μ-update-counter t)
     update-counter.Pre
 
-abbrev update-counter-below : ℕ → In 5 update-counter-kinds.ps
+abbrev update-counter-below : ℕ → In 6 update-counter-kinds.ps
 update-counter-below t =
     and
-    5
+    6
     update-counter-kinds.ps
-    (falls 5 update-counter-kinds.ps _<_ μ-update-counter t)
+    (falls 6 update-counter-kinds.ps _<_ μ-update-counter t)
     update-counter.Pre
 
 abbrev oc : ℕ → going-lts.Claims
@@ -136,7 +136,7 @@ going-enum-known-entered-2 : (t : ℕ) → going-lts.Need-enum-known-entered-2 (
 going-enum-known-entered-2 t c = search needs
 
 going-update-counter-requires : (t : ℕ) → going-lts.Need-update-counter-requires (oc t) (going-at t) going.Post
-going-update-counter-requires t c κs = (omega (arith, c .before .before .before .before .before .before .before .before .before .before .before .before .before .before .before .pre .0), c .before .before .before .before .before .before .before .before .before .before .before .before .before .before .before .pre .1)
+going-update-counter-requires t c κs = (omega (arith, c .before .before .before .before .before .before .before .before .before .before .before .before .before .before .before .before .pre .0), c .before .before .before .before .before .before .before .before .before .before .before .before .before .before .before .before .pre .1)
 
 going-finished-requires : (t : ℕ) → going-lts.Need-finished-requires (oc t) (going-at t) going.Post
 going-finished-requires t c κs = search needs
@@ -180,7 +180,7 @@ transition-enum-known-choice-2 : (t : ℕ) → transition-lts.Need-enum-known-ch
 transition-enum-known-choice-2 t c = search needs
 
 transition-going-requires : (t : ℕ) → transition-lts.Need-going-requires (tc t) (transition-at t) transition.Post
-transition-going-requires t c κs = (omega (arith, c .before .before .before .before .before .before .before .before .before .pre .0), c .before .before .before .before .before .before .before .before .before .pre .1 .1)
+transition-going-requires t c κs = (omega (arith, c .before .before .before .before .before .before .before .before .before .before .pre .0), c .before .before .before .before .before .before .before .before .before .before .pre .1 .1)
 
 transition-returns : (t : ℕ) → transition-lts.Need-returns (tc t) (transition-at t) transition.Post
 transition-returns t c = λ n h. sym (transition-by n _ (λ _ _ _. refl) _ _ _ _ (sym (c .before .before .before .choose .ensures) ∙ c .before .choice .given .1))
@@ -226,7 +226,7 @@ update-counter-counted-requires t c κs = search needs
 
 update-counter-transition-requires : (t : ℕ) → update-counter-lts.Need-transition-requires (uc t) (update-counter-at t) update-counter.Post
 update-counter-transition-requires t c κs =
-    rw (c .before .before .before .counted .ensures) (omega (arith, c .before .before .before .before .before .before .before .before .before .before .before .before .before .before .before .before .pre .0, fewer _ _ (c .before .before .before .before .before .before .before .before .before .before .before .before .before .before .before .before .args .r) (c .before .before .before .before .before .before .before .before .before .before .before .before .before .before .before .before .args .s) _ (sym (c .before .before .before .before .before .before .before .update-counters .ensures) ∙ c .before .before .before .before .before .tallied2 .given .1) (c .before .before .if1 .taken)), (search needs, c .before .before .before .before .before .before .before .before .before .before .before .before .before .before .before .before .pre .1))
+    rw (c .before .before .before .counted .ensures) (omega (arith, c .before .before .before .before .before .before .before .before .before .before .before .before .before .before .before .before .before .pre .0, fewer _ _ (c .before .before .before .before .before .before .before .before .before .before .before .before .before .before .before .before .before .args .r) (c .before .before .before .before .before .before .before .before .before .before .before .before .before .before .before .before .before .args .s) _ (sym (c .before .before .before .before .before .before .before .update-counters .ensures) ∙ c .before .before .before .before .before .tallied2 .given .1) (c .before .before .if1 .taken)), (search needs, c .before .before .before .before .before .before .before .before .before .before .before .before .before .before .before .before .before .pre .1))
 
 update-counter-after-zero-requires : (t : ℕ) → update-counter-lts.Need-after-zero-requires (uc t) (update-counter-at t) update-counter.Post
 update-counter-after-zero-requires t c κs = search needs
@@ -234,8 +234,8 @@ update-counter-after-zero-requires t c κs = search needs
 update-counter-returns : (t : ℕ) → update-counter-lts.Need-returns (uc t) (update-counter-at t) update-counter.Post
 update-counter-returns t c =
     λ n h. c .after-zero .ensures
-    ∙ ap afterZero (rw (c .before .before .before .before .before .counted .ensures) at (c .before .transition .ensures) (n - 1) (one-less _ _ (c .before .before .before .before .before .before .before .before .before .before .before .before .before .before .before .before .before .before .args .r) (c .before .before .before .before .before .before .before .before .before .before .before .before .before .before .before .before .before .before .args .s) _ (sym (c .before .before .before .before .before .before .before .before .before .update-counters .ensures) ∙ c .before .before .before .before .before .before .before .tallied2 .given .1) (c .before .before .before .before .if1 .taken) n h))
-    ∙ sym (on-report _ _ (c .before .before .before .before .before .before .before .before .before .before .before .before .before .before .before .before .before .before .args .r) (c .before .before .before .before .before .before .before .before .before .before .before .before .before .before .before .before .before .before .args .s) _ (sym (c .before .before .before .before .before .before .before .before .before .update-counters .ensures) ∙ c .before .before .before .before .before .before .before .tallied2 .given .1) (c .before .before .before .before .if1 .taken) n h _)
+    ∙ ap afterZero (rw (c .before .before .before .before .before .counted .ensures) at (c .before .transition .ensures) (n - 1) (one-less _ _ (c .before .before .before .before .before .before .before .before .before .before .before .before .before .before .before .before .before .before .before .args .r) (c .before .before .before .before .before .before .before .before .before .before .before .before .before .before .before .before .before .before .before .args .s) _ (sym (c .before .before .before .before .before .before .before .before .before .update-counters .ensures) ∙ c .before .before .before .before .before .before .before .tallied2 .given .1) (c .before .before .before .before .if1 .taken) n h))
+    ∙ sym (on-report _ _ (c .before .before .before .before .before .before .before .before .before .before .before .before .before .before .before .before .before .before .before .args .r) (c .before .before .before .before .before .before .before .before .before .before .before .before .before .before .before .before .before .before .before .args .s) _ (sym (c .before .before .before .before .before .before .before .before .before .update-counters .ensures) ∙ c .before .before .before .before .before .before .before .tallied2 .given .1) (c .before .before .before .before .if1 .taken) n h _)
 
 update-counter-returns-2 : (t : ℕ) → update-counter-lts.Need-returns-2 (uc t) (update-counter-at t) update-counter.Post
 unfolding updateCounter

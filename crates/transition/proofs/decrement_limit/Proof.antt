@@ -30,7 +30,7 @@ returns c =
     let at-at-limit = at-if1 .before in
     let at-state-row = at-at-limit .before in
     let at-saturating-sub = at-state-row .before .before in
-    let at-args = at-saturating-sub .before .before .before .before .before in
+    let at-args = at-saturating-sub .before .before .before .before .before .before in
     rw (rw (at-saturating-sub .saturating-sub .ensures, at-state-row .state-row .ensures) at
     (sym (at-at-limit .at-limit .ensures) ∙ at-if1 .if1 .taken))
     (rw (at-saturating-sub .saturating-sub .ensures, at-no-action .no-action .ensures) at

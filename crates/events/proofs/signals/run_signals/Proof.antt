@@ -5,7 +5,7 @@ use Prim.Native.Nat.{_+_, _*_, _-_, _≤_, min}
 use mathlib.Core.Path.{_≡_, refl, sym, _∙_}
 use native.Mathlib.Omega.{arith}
 use Rattle.machine.specs.Constants.{counterNum}
-use Rattle.machine.specs.Source.{tapes}
+use Rattle.machine.specs.Words.{lent}
 use Rattle.steps.specs.Events.{signals}
 use Rattle.events.specs.Run.{tables, run}
 use Rattle.transition.specs.Transition.{at-most}
@@ -15,13 +15,13 @@ use Rattle.events.proofs.signals.run_signals.Statement.{statement}
 use Rattle.events.proofs.signals.run_signals.Tie as tie
 
 abbrev Inv-loop : tie.InvT-loop
-Inv-loop machines states transitions chances values fw actions s f₀ a₀ t₀ left-out₀ m₀ end₀ f a t left-out m end =
+Inv-loop machines states transitions chances values words fw actions s f₀ a₀ t₀ left-out₀ m₀ end₀ f a t left-out m end =
     let T = tables machines states transitions in
-    let D = tapes chances values in
+    let D = lent chances values words in
     (end ≤ 16) × (f .machines ≡ fw .machines) × Heard (signals T D (run fw actions s)) T D left-out m end f a t
 
 abbrev μ-loop : tie.MeasureT-loop
-μ-loop machines states transitions chances values fw actions s f₀ a₀ t₀ left-out₀ m₀ end₀ f a t left-out m end =
+μ-loop machines states transitions chances values words fw actions s f₀ a₀ t₀ left-out₀ m₀ end₀ f a t left-out m end =
     min left-out 1 * 17 + (end - m)
 
 smaller-requires : tie.Need-smaller-requires Inv-loop μ-loop
@@ -29,7 +29,7 @@ smaller-requires c κs = search needs
 
 loop-holds : tie.Need-loop-holds Inv-loop μ-loop
 loop-holds c =
-    let pre = c .before .before .before .before .before .before .pre in
+    let pre = c .before .before .before .before .before .before .before .pre in
     (rw (c .smaller .ensures) (omega arith), refl, rw (c .smaller .ensures) (heard-all _ _ _ _ _ (pre)))
 
 add-if2 : tie.Need-add-if2 Inv-loop μ-loop

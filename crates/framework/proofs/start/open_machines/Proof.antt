@@ -7,20 +7,20 @@ use mathlib.Core.List.{List, []}
 use native.Mathlib.Nat.{sub-zero}
 use native.Mathlib.Omega.{arith}
 use Rattle.steps.specs.Framework.{openRun}
-use Rattle.machine.specs.Source.{tapes}
+use Rattle.machine.specs.Words.{lent}
 use Rattle.events.specs.Run.{tables}
 use Rattle.framework.proofs.Opens.{Opens, opens-end, opens-on, opens-stop}
 use Rattle.framework.proofs.start.open_machines.Statement.{statement}
 use Rattle.framework.proofs.start.open_machines.Tie as tie
 
 abbrev Inv-loop : tie.InvT-loop
-Inv-loop max-padding-frac max-blocking-frac time machines states values count f₀ at₀ m₀ f at m =
+Inv-loop max-padding-frac max-blocking-frac time machines states values words count f₀ at₀ m₀ f at m =
     (m ≤ count) × (f .«current_time» ≡ time) × ((ts : List ℕ) →
-    Opens (openRun (tables machines states ts) max-padding-frac max-blocking-frac time (tapes [] values))
-    (tables machines states ts) (tapes [] values) count m f at)
+    Opens (openRun (tables machines states ts) max-padding-frac max-blocking-frac time (lent [] values words))
+    (tables machines states ts) (lent [] values words) count m f at)
 
 abbrev μ-loop : tie.MeasureT-loop
-μ-loop max-padding-frac max-blocking-frac time machines states values count f₀ at₀ m₀ f at m = count - m
+μ-loop max-padding-frac max-blocking-frac time machines states values words count f₀ at₀ m₀ f at m = count - m
 
 new-framework-requires : tie.Need-new-framework-requires Inv-loop μ-loop
 new-framework-requires c κs = search needs
@@ -33,7 +33,7 @@ loop-holds c = (
 )
 
 open-machine-requires : tie.Need-open-machine-requires Inv-loop μ-loop
-open-machine-requires c κs = omega (arith, c .loop-test .taken, c .before .before .before .before .before .before .pre)
+open-machine-requires c κs = omega (arith, c .loop-test .taken, c .before .before .before .before .before .before .before .pre)
 
 enum-known-entered : tie.Need-enum-known-entered Inv-loop μ-loop
 enum-known-entered c = search needs
@@ -52,13 +52,13 @@ enum-known-entered-2 : tie.Need-enum-known-entered-2 Inv-loop μ-loop
 enum-known-entered-2 c = search needs
 
 mul-r : tie.Need-mul-r Inv-loop μ-loop
-mul-r c = omega (arith, c .before .before .before .before .loop-test .taken, c .before .before .before .before .before .before .before .before .before .before .pre)
+mul-r c = omega (arith, c .before .before .before .before .loop-test .taken, c .before .before .before .before .before .before .before .before .before .before .before .pre)
 
 element-set-from-r : tie.Need-element-set-from-r Inv-loop μ-loop
-element-set-from-r c = omega (arith, c .before .before .before .before .loop-test .taken, c .before .before .before .before .before .before .before .before .before .before .pre)
+element-set-from-r c = omega (arith, c .before .before .before .before .loop-test .taken, c .before .before .before .before .before .before .before .before .before .before .before .pre)
 
 add-m : tie.Need-add-m Inv-loop μ-loop
-add-m c = omega (arith, c .before .before .before .before .loop-test .taken, c .before .before .before .before .before .before .before .before .before .before .pre)
+add-m c = omega (arith, c .before .before .before .before .loop-test .taken, c .before .before .before .before .before .before .before .before .before .before .before .pre)
 
 loop-less : tie.Need-loop-less Inv-loop μ-loop
 loop-less c = search needs

@@ -1,9 +1,26 @@
 -- `choose` meets its contract, by what was drawn. Assumes nothing.
 use borrow.Author.Needs.{needs}
-use mathlib.Core.Path.{sym, _∙_}
-use Rattle.moves.specs.Choice.{choose}
+use borrow.Author.Tests.{eqb-false}
+use Prim.Native.Nat.{ℕ}
+use mathlib.Core.Bool.{Bool, true, false, _||_, true≢false}
+use mathlib.Core.List.{List}
+use mathlib.Core.Path.{_≡_, sym, _∙_}
+use lib.Dec.{eqb}
+use Rattle.machine.specs.Constants.{stateEnd}
+use Rattle.machine.specs.State.{stateRow, countOf}
+use Rattle.moves.specs.Choice.{idle, choose}
 use Rattle.moves.proofs.choice.choose.Statement.{statement}
 use Rattle.moves.proofs.choice.choose.Tie as tie
+
+-- where a machine is not idle, its state has rows for the event
+busy : (rows : List ℕ) (state event : ℕ) → idle rows state event ≡ false → countOf (stateRow rows state) event ≡ 0 → ⊥
+unfolding idle
+busy rows state event h e = by (eqb state stateEnd) (eqb-false (countOf (stateRow rows state) event) 0) h e
+  where
+    by : (a : Bool) → (eqb (countOf (stateRow rows state) event) 0 ≡ false → countOf (stateRow rows state) event ≡ 0 → ⊥)
+        → (a || eqb (countOf (stateRow rows state) event) 0) ≡ false → countOf (stateRow rows state) event ≡ 0 → ⊥
+    by true n h e = true≢false h
+    by false n h e = n h e
 
 idle-requires : tie.Need-idle-requires
 idle-requires c κs = search needs
@@ -25,7 +42,11 @@ enum-known-drawn-2 : tie.Need-enum-known-drawn-2
 enum-known-drawn-2 c = search needs
 
 first-of-requires : tie.Need-first-of-requires
-first-of-requires c κs = search needs
+first-of-requires c κs =
+    let at-state-row = c .before .before .before .before in
+    let at-if1 = at-state-row .before in
+    let quiet = sym (at-if1 .before .idle .ensures) ∙ at-if1 .if1 .left in
+    (search needs, λ e. busy _ _ _ quiet (rw (← at-state-row .state-row .ensures) e))
 
 count-of-requires : tie.Need-count-of-requires
 count-of-requires c κs = search needs

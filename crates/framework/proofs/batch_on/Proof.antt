@@ -1,20 +1,20 @@
--- `batch` meets its contract: refused before the run, stopped in it, or accepted. The loop's invariant: `fit` says whether the states of
+-- `batch_on` meets its contract: refused before the run, stopped in it, or accepted. The loop's invariant: `fit` says whether the states of
 -- the machines passed fit, and `ended` of them have ended.
 use borrow.Author.Needs.{needs}
 use Prim.Native.Nat.{_-_, _≤_}
 use mathlib.Core.Path.{_≡_, refl, sym, _∙_}
 use native.Mathlib.Omega.{arith}
-use borrow.Author.Tests.{eq-eqb, ne-eqb}
-use Rattle.steps.specs.Framework.{statesFit, endedIn, batchRefusal, triggerEvents, batch}
-use Rattle.machine.specs.Source.{tapes}
+use borrow.Author.Tests.{eq-eqb}
+use Rattle.steps.specs.Framework.{statesFit, endedIn, triggerEvents, batch}
+use Rattle.machine.specs.Words.{lent}
 use Rattle.events.specs.Run.{tables, entered}
-use Rattle.framework.proofs.Checked.{fits-is, batch-passes}
+use Rattle.framework.proofs.Checked.{refusalOn, passed-on, refused-on, fits-is, batch-passes}
 use Rattle.framework.proofs.Ended.{one-more, at-most, one-more-fits}
 use Rattle.framework.proofs.Outcomes.{stopped-is, complete-is}
-use Rattle.framework.proofs.batch.Statement.{statement}
-use Rattle.framework.proofs.batch.Tie as tie
-use Rattle.framework.proofs.batch.Reads as reads
-use Rattle.framework.proofs.batch.Lts as lts
+use Rattle.framework.proofs.batch_on.Statement.{statement}
+use Rattle.framework.proofs.batch_on.Tie as tie
+use Rattle.framework.proofs.batch_on.Reads as reads
+use Rattle.framework.proofs.batch_on.Lts as lts
 use Rattle.numbers.proofs.smaller.Reads as smaller-reads
 use Rattle.machine.proofs.state.word.Reads as word-reads
 use Rattle.framework.proofs.checks.state_fits.Reads as state-fits-reads
@@ -26,11 +26,11 @@ use Rattle.framework.proofs.trigger_events.Reads as trigger-events-read
 use Rattle.framework.proofs.accepted.Reads as accepted-reads
 
 abbrev Inv-loop : tie.InvT-loop
-Inv-loop machines states transitions time events chances values out fw count fit₀ ended₀ m₀ fit ended m =
+Inv-loop machines states transitions time events chances values words raw out fw count fit₀ ended₀ m₀ fit ended m =
     (m ≤ count) × (count ≤ 16) × (fit ≡ statesFit (tables machines states transitions) fw m) × (ended ≡ endedIn (fw .runtime) m)
 
 abbrev μ-loop : tie.MeasureT-loop
-μ-loop machines states transitions time events chances values out fw count fit₀ ended₀ m₀ fit ended m = count - m
+μ-loop machines states transitions time events chances values words raw out fw count fit₀ ended₀ m₀ fit ended m = count - m
 
 smaller-requires : tie.Need-smaller-requires Inv-loop μ-loop
 smaller-requires c κs = search needs
@@ -115,30 +115,35 @@ refusal-is : (c : lts.After-batch-refusal (
   accepted-reads.Asked,
   accepted-reads.Learnt,
 ) reads.Pre reads.Post Inv-loop μ-loop)
-    → let args = c .before .before .before .before .before .before .before .before .before .before .before .before .args in
+    → let args = c .before .before .before .before .before .before .before .before .before .before .before .before .before .args in
     c .batch-refusal .result
-    ≡ batchRefusal (args .t1) (tables (args .machines .now) (args .states .now) (args .transitions .now)) (args .events .now) (args .out .now)
+    ≡ refusalOn (args .raw) (args .t1) (tables (args .machines .now) (args .states .now) (args .transitions .now)) (args .events .now) (args .out .now)
 refusal-is c =
     let fits-tables = c .before .fits-tables in
     let loop-test = c .before .before .loop-test in
     let loop = c .before .before .before .loop in
     let smaller = c .before .before .before .before .smaller in
-    let args = c .before .before .before .before .before .before .before .before .before .before .before .before .args in
+    let args = c .before .before .before .before .before .before .before .before .before .before .before .before .before .args in
     let all : loop .m ≡ smaller .result = omega (arith, loop .inv .0, loop-test .left) in
     c .batch-refusal .ensures (args .t1) (args .out .now)
     (λ z. fits-tables .ensures ∙ fits-is _ _ _ _ _ (all ∙ smaller .ensures) (loop .inv .2) (loop .inv .3) z) refl
 
 returns : tie.Need-returns Inv-loop μ-loop
-unfolding batch
 returns c =
     let if1 = c .before .if1 in
     let is = refusal-is (c .before .before) in
-    let args = c .before .before .before .before .before .before .before .before .before .before .before .before .before .before .args in
-    rw (ne-eqb _ _ (λ z. if1 .taken (is ∙ z))) (rw is at (c .refused .ensures (args .out .now)), refl)
+    let args = c .before .before .before .before .before .before .before .before .before .before .before .before .before .before .before .args in
+    let T = tables (args .machines .now) (args .states .now) (args .transitions .now) in
+    let D = lent (args .chances .now) (args .values .now) (args .words .now) in
+    rw (refused-on (args .raw) T (args .t1) (args .events .now) (args .out .now) (args .time) D (λ z. if1 .taken (is ∙ z)))
+    (rw is at (c .refused .ensures (args .out .now)), refl)
 
 trigger-events-requires : tie.Need-trigger-events-requires Inv-loop μ-loop
 trigger-events-requires c κs =
-    batch-passes _ _ _ _ (sym (refusal-is (c .before)) ∙ c .if1 .left) .0
+    let args = c .before .before .before .before .before .before .before .before .before .before .before .before .before .before .args in
+    let T = tables (args .machines .now) (args .states .now) (args .transitions .now) in
+    let none = sym (refusal-is (c .before)) ∙ c .if1 .left in
+    batch-passes _ _ _ _ (passed-on (args .raw) T (args .t1) (args .events .now) (args .out .now) none .1) .0
 
 enum-known-verdict : tie.Need-enum-known-verdict Inv-loop μ-loop
 enum-known-verdict c = search needs
@@ -154,7 +159,10 @@ accepted-requires c κs =
     let trigger-events = c .before .before .before .trigger-events in
     let if1 = c .before .before .before .before .if1 in
     let none = sym (refusal-is (c .before .before .before .before .before)) ∙ if1 .left in
-    rw (trigger-events .ensures .1) (batch-passes _ _ _ _ none .1)
+    let args = c .before .before .before .before .before .before .before .before .before .before .before .before .before .before .before .before .before .before .args in
+    let T = tables (args .machines .now) (args .states .now) (args .transitions .now) in
+    let passed = passed-on (args .raw) T (args .t1) (args .events .now) (args .out .now) none in
+    rw (trigger-events .ensures .1) (batch-passes _ _ _ _ (passed .1) .1)
 
 returns-2 : tie.Need-returns-2 Inv-loop μ-loop
 unfolding batch
@@ -162,14 +170,15 @@ returns-2 c =
     let verdict = c .before .before .verdict in
     let trigger-events = c .before .before .before .before .trigger-events in
     let if1 = c .before .before .before .before .before .if1 in
-    let args = c .before .before .before .before .before .before .before .before .before .before .before .before .before .before .before .before .before .before .args in
+    let args = c .before .before .before .before .before .before .before .before .before .before .before .before .before .before .before .before .before .before .before .args in
     let T = tables (args .machines .now) (args .states .now) (args .transitions .now) in
-    let D = tapes (args .chances .now) (args .values .now) in
+    let D = lent (args .chances .now) (args .values .now) (args .words .now) in
     let es = args .events .now in
     let stops = stopped-is (entered (args .t1)) (triggerEvents T D (args .time) es (args .t1)) _ _
     (trigger-events .ensures .0) (verdict .given .1) in
     let none = sym (refusal-is (c .before .before .before .before .before .before)) ∙ if1 .left in
-    rw (eq-eqb _ _ none, stops) (c .refused2 .ensures (args .out .now), refl)
+    let passed = passed-on (args .raw) T (args .t1) es (args .out .now) none in
+    rw (passed .0, eq-eqb _ _ (passed .1), stops) (c .refused2 .ensures (args .out .now), refl)
 
 same-length : tie.Need-same-length Inv-loop μ-loop
 same-length c = search needs
@@ -181,17 +190,18 @@ returns-3 c =
     let enum-told = c .before .before .before .before .enum-told in
     let trigger-events = c .before .before .before .before .before .before .trigger-events in
     let if1 = c .before .before .before .before .before .before .before .if1 in
-    let args = c .before .before .before .before .before .before .before .before .before .before .before .before .before .before .before .before .before .before .before .before .args in
+    let args = c .before .before .before .before .before .before .before .before .before .before .before .before .before .before .before .before .before .before .before .before .before .args in
     let T = tables (args .machines .now) (args .states .now) (args .transitions .now) in
-    let D = tapes (args .chances .now) (args .values .now) in
+    let D = lent (args .chances .now) (args .values .now) (args .words .now) in
     let es = args .events .now in
     let ends = complete-is (entered (args .t1)) (triggerEvents T D (args .time) es (args .t1)) _
     (trigger-events .ensures .0) (enum-told .given .1) in
     let none = sym (refusal-is (c .before .before .before .before .before .before .before .before)) ∙ if1 .left in
-    rw (eq-eqb _ _ none, ends) (accepted .ensures)
+    let passed = passed-on (args .raw) T (args .t1) es (args .out .now) none in
+    rw (passed .0, eq-eqb _ _ (passed .1), ends) (accepted .ensures)
 
-pub batch-spec : {M : Type 1} → statement M
-batch-spec =
+pub batch-on-spec : {M : Type 1} → statement M
+batch-on-spec =
     tie.close
     (tie.spec
     Inv-loop

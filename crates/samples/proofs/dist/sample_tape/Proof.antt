@@ -1,8 +1,8 @@
--- `sample_at` meets its contract: what its functions ensure, put together. Assumes nothing.
+-- `sample_tape` meets its contract: what its functions ensure, put together. Assumes nothing.
 use Rattle.samples.specs.Dist.{sample}
 use borrow.Author.Needs.{needs}
-use Rattle.samples.proofs.dist.sample_at.Statement.{statement}
-use Rattle.samples.proofs.dist.sample_at.Tie as tie
+use Rattle.samples.proofs.dist.sample_tape.Statement.{statement}
+use Rattle.samples.proofs.dist.sample_tape.Tie as tie
 
 dist-at-requires : tie.Need-dist-at-requires
 dist-at-requires c κs = search needs
@@ -18,6 +18,6 @@ unfolding sample
 returns c =
     rw (c .adjusted-draw .ensures, c .before .dist-sample .ensures, c .before .before .dist-at .ensures)
 
-pub sample-at-spec : {M : Type 1} → statement M
-sample-at-spec =
+pub sample-tape-spec : {M : Type 1} → statement M
+sample-tape-spec =
     tie.close (tie.spec dist-at-requires dist-sample-requires adjusted-draw-requires returns)

@@ -1,0 +1,2 @@
+-- What the walks cite: a `&` to an empty slice.
+mod Empty
