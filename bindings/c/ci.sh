@@ -1,11 +1,13 @@
 #!/usr/bin/env bash
-# Tests the C interface: the header and target/staticlib/libsender.a, with every C and C++ compiler that is here.
+# Tests the C interface, the header and the archive, with every C and C++ compiler that is here. The archive is that of the directory
+# MAYBENOT_ARCHIVE_DIR, else of target/staticlib.
 set -euo pipefail
 cd "$(dirname "$0")/../.."
 out=$(mktemp -d)
 trap 'rm -rf "$out"' EXIT
 warnings="-O2 -Wall -Wextra -Werror -pedantic -Ibindings/c"
-link="-Ltarget/staticlib -lsender"
+archives=${MAYBENOT_ARCHIVE_DIR:-target/staticlib}
+link="-L$archives -lsender"
 
 fail() { echo "bindings/c: $*"; exit 1; }
 
@@ -87,7 +89,7 @@ check_readme() {
   local block needs
   block=$(sed -n '/^```c$/,/^```$/p' README.md | sed '1d;$d')
   [ -n "$block" ] && [[ "$(cat bindings/c/example/sender.c)" == *"$block"* ]] || fail "the C in README.md is not the example's"
-  needs=$(nm --undefined-only target/staticlib/libsender.a | awk '$1 == "U" { print $2 }' | sort | xargs)
+  needs=$(nm --undefined-only "$archives/libsender.a" | awk '$1 == "U" { print $2 }' | sort | xargs)
   [ "$needs" = "memcpy memset" ] || fail "the archive needs $needs"
 }
 

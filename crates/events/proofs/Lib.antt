@@ -1,4 +1,3 @@
 pub mod All
 pub mod Counts
-pub mod Heard
 pub mod Turns

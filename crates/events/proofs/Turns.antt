@@ -28,7 +28,7 @@ use Rattle.moves.specs.Choice.{choose}
 use Rattle.moves.specs.declared.choice.Choice.{Choice}
 use Rattle.moves.specs.declared.choice.Choice.the-variants.{Refused, Chosen}
 use Rattle.transition.specs.Transition.{goingAt, turn-missing, turn-chosen}
-use Rattle.events.specs.Account.{onlyCounts}
+use Rattle.account.specs.Account.{onlyCounts}
 use Rattle.events.specs.Run.{run}
 
 -- a turn of `each`

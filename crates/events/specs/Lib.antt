@@ -1,3 +1,2 @@
 -- What the contracts of `events` say beside the definitions of `steps`.
-pub mod Account
 pub mod Run

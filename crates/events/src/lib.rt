@@ -1,5 +1,4 @@
-// framework.rs, process_event: the events of a batch in order, each heard by its machines in order,
-// and the signals after them.
+// framework.rs, process_event: the events of a batch in order, each heard by its machines in order.
 use account::blocked_for;
 use account::context_of;
 use account::counted_by;
@@ -33,9 +32,6 @@ ghost use Rattle.steps.specs.Events.{each, eventTurn};
 ghost use Rattle.steps.specs.Framework.{sharedFrom, begin, kindsFit};
 ghost use Rattle.steps.specs.declared.Verdict.the-variants.{Refused};
 ghost use Rattle.events.specs.Run.{tables, entered, ran, ranFrom};
-
-pub mod account; // what an event counts, and whose turn it is
-pub mod signals; // the signals after the last event
 
 // What a call shares as it begins: no counter has reported zero, both tapes are at their front.
 fn shared_from(signal_pending: u64) -> Shared

@@ -10,12 +10,11 @@ use lib.ListN.{length}
 use borrow.Author.Tests.{eq-eqb, ne-eqb, eqb-false, ltb-false}
 use Rattle.machine.specs.Source.{Source}
 use Rattle.machine.specs.declared.source.Place.{Place}
-use Rattle.tables.specs.First.{orElse}
 use Rattle.tables.specs.Machine.{tablesRefusal}
-use Rattle.tables.specs.Outside.{drawsOutside}
+use Rattle.outside.specs.Outside.{drawsOutside}
 use Rattle.tables.specs.Valid.Laws.{zero-valid}
 use Rattle.steps.specs.Events.{Tables, numMachines}
-use Rattle.steps.specs.Framework.{rowsIn, statesFit, endedIn, fitsTables, kindsFit, eventsFit, batchRefusal, triggerEvents, refused, concluded, batch}
+use Rattle.steps.specs.Framework.{orElse, rowsIn, statesFit, endedIn, fitsTables, kindsFit, eventsFit, batchRefusal, triggerEvents, refused, concluded, batch}
 use Rattle.steps.specs.Words.{outsideRefused}
 use Rattle.steps.specs.Fits.{fits-says}
 use Rattle.steps.specs.declared.Framework.{Framework}

@@ -19,7 +19,7 @@ ghost use Prim.Native.Nat.{ℕ, _*_, _/_, _≤_};
 ghost use lib.ListN.{length};
 ghost use Rattle.machine.specs.Constants.{rowWords};
 ghost use Rattle.tables.specs.Machine.{tablesRefusal};
-ghost use Rattle.tables.specs.Outside.{drawsOutside};
+ghost use Rattle.outside.specs.Outside.{drawsOutside};
 ghost use Rattle.steps.specs.Events.{numMachines};
 ghost use Rattle.steps.specs.Framework as Spec;
 ghost use Rattle.machine.specs.Source.{tapes};
@@ -122,7 +122,7 @@ pub fn opening_words(
     if refusal != 0 {
         return opened_in_words(start::unopened(refusal));
     }
-    if tables::draws_outside(machines, states) {
+    if outside::draws_outside(machines, states) {
         return opened_in_words(start::unopened(DRAWN_OUTSIDE));
     }
     let values: [f64; 0] = [];
@@ -142,7 +142,7 @@ fn outside(raw: bool, machines: &[u64], states: &[u64]) -> bool
     ensures { λ r. ⌜ r ≡ (raw && drawsOutside (now (machines .entry)) (now (states .entry))) ⌝ }
 {
     if raw {
-        return tables::draws_outside(machines, states);
+        return outside::draws_outside(machines, states);
     }
     false
 }
@@ -225,7 +225,7 @@ fn trigger_events(
     }
     let f = ran.framework;
     let actions = ran.actions;
-    let heard = events::signals::run_signals(
+    let heard = signals::run_signals(
         machines,
         states,
         transitions,
@@ -288,9 +288,9 @@ fn accepted(ran: Ran, out: &mut [u64]) -> Answer
 }
 
 // trigger_events: a batch of events at one time, and the actions that it returns as rows of `out`.
-// It draws from the two tapes, or, where `raw` is set, from the words; what is not meant is lent
-// empty. The machines are looked at here, where the framework is at hand: handed on, it would be
-// copied.
+// It draws from the words where there are any, else from the two tapes; where `raw` is set it also
+// refuses what is drawn outside. The machines are looked at here, where the framework is at hand:
+// handed on, it would be copied.
 pub fn batch_on(
     fw: Framework,
     machines: &[u64],

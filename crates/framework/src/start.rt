@@ -1,5 +1,7 @@
 // The machines of an opening: each begins in state 0, with the limit that its start state draws.
-use events::account::states_of;
+use account::states_of;
+use dists::Whole;
+use dists::WholeDrawn;
 use machine::constants::ACTION;
 use machine::constants::ALLOWED_BLOCKED_MICROSEC;
 use machine::constants::MACHINE_WORDS;
@@ -7,8 +9,6 @@ use machine::source::Place;
 use machine::state::state_row;
 use machine::state::word;
 use samples::action::sample_limit;
-use samples::dist::Whole;
-use samples::dist::WholeDrawn;
 use steps::Counters;
 use steps::Counts;
 use steps::Entered;

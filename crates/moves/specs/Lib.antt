@@ -1,4 +1,3 @@
 -- What the contracts of `moves` cite beside the definitions of `steps`.
 pub mod Choice
-pub mod Counter
 pub mod Short

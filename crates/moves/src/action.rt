@@ -1,4 +1,5 @@
 // framework.rs: the action that a state's row schedules (schedule_action).
+use dists::WholeDrawn;
 use machine::constants::ACTION;
 use machine::constants::CANCEL;
 use machine::constants::FLAGS;
@@ -8,7 +9,6 @@ use machine::source::Place;
 use machine::state::word;
 use samples::action::sample_duration;
 use samples::action::sample_timeout;
-use samples::dist::WholeDrawn;
 use steps::Scheduled;
 use steps::TriggerAction;
 ghost use mathlib.Core.Path.{_≡_};

@@ -1,8 +1,6 @@
 // What a transition of framework.rs is made of, for one machine: the choice of a next state, and what
 // happens on the way to it, up to a CounterZero transition. One machine goes in and comes back.
 pub mod choice; // the choice of a next state
-mod limits; // below_action_limits and what it asks
 pub mod action; // schedule_action
-pub mod counter; // the counters of update_counter
 pub mod step; // a state that is entered, and what follows its counters
 pub mod settle; // the short way

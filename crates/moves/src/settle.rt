@@ -4,9 +4,9 @@
 // works it out there; it answers what it may change and no more, since each word of an answer is
 // copied: docs/PERFORMANCE.md has what that saves.
 use super::action::schedule_action;
-use super::counter::update_any;
-use super::limits::below_action_limits;
 use super::step::enter;
+use counters::update_any;
+use limits::below_action_limits;
 use machine::constants::STATE_END;
 use machine::constants::STATE_SIGNAL;
 use machine::source::Place;

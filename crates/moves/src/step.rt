@@ -1,10 +1,10 @@
 // The parts of a step: what a transition makes of its machine before and after its counter update.
 use super::action::schedule_action;
-use super::limits::below_action_limits;
+use dists::WholeDrawn;
+use limits::below_action_limits;
 use machine::constants::STATE_END;
 use machine::source::Place;
 use samples::action::sample_limit;
-use samples::dist::WholeDrawn;
 use steps::Context;
 use steps::Entered;
 use steps::MachineRuntime;
@@ -17,23 +17,14 @@ use steps::TriggerAction;
 use steps::Update;
 use steps::Updated;
 ghost use mathlib.Core.Path.{_≡_};
-ghost use mathlib.Core.Bool.{true, _&&_, _||_};
+ghost use mathlib.Core.Bool.{true, _&&_};
 ghost use Prim.Native.Nat.{_<_};
 ghost use Rattle.machine.specs.Constants.{stateEnd};
 ghost use Rattle.steps.specs.Limits.{belowActionLimits};
 ghost use Rattle.steps.specs.Transition as Spec;
 ghost use Rattle.machine.specs.Words.{lentValues};
 
-// ---- two tests
-
-pub fn either(a: bool, b: bool) -> bool
-    ensures { λ x. ⌜ x ≡ (a || b) ⌝ }
-{
-    if a {
-        return true;
-    }
-    b
-}
+// ---- a test of two
 
 fn both(a: bool, b: bool) -> bool
     ensures { λ x. ⌜ x ≡ (a && b) ⌝ }

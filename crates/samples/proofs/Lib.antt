@@ -1,3 +1,2 @@
--- What functions' proofs cite: a lemma of floats, and words from a position on.
+-- What functions' proofs cite: a lemma of floats.
 mod Whole
-mod Word

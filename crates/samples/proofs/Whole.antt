@@ -7,9 +7,9 @@ use native.Mathlib.Nat.{le-refl, min-le-right}
 use lib.Ieee.{Float, nan, inf, fin}
 use Rattle.numbers.specs.Round.{roundAway}
 use Rattle.machine.specs.Constants.{stateLimitMax}
-use Rattle.samples.specs.Dist.{gotWhole, wholeOf}
-use Rattle.samples.specs.declared.dist.ValueDrawn.{ValueDrawn}
-use Rattle.samples.specs.declared.dist.ValueDrawn.the-variants.{Refused, GotValue}
+use Rattle.dists.specs.Dist.{gotWhole, wholeOf}
+use Rattle.dists.specs.declared.ValueDrawn.{ValueDrawn}
+use Rattle.dists.specs.declared.ValueDrawn.the-variants.{Refused, GotValue}
 
 at-most : (x : Float) → roundAway x ≤ stateLimitMax
 unfolding roundAway

@@ -8,8 +8,8 @@ use Rattle.numbers.specs.Round.{roundAway}
 use Rattle.machine.specs.Constants.{action, timeout, duration, limit, sendPadding, blockOutgoing, updateTimer, maxSampledTimeout, maxSampledDuration, stateLimitMax}
 use Rattle.machine.specs.Source.{Values}
 use Rattle.machine.specs.declared.source.Place.{Place}
-use Rattle.samples.specs.Dist.{distAt, sample, gotWhole, wholeOf}
-use Rattle.samples.specs.declared.dist.WholeDrawn.{WholeDrawn}
+use Rattle.dists.specs.Dist.{distAt, sample, gotWhole, wholeOf}
+use Rattle.dists.specs.declared.WholeDrawn.{WholeDrawn}
 
 -- The code of a state row's action; 0 is none.
 abbrev pub actionOf : List ℕ → ℕ

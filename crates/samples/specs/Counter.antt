@@ -7,8 +7,8 @@ use lib.Dec.{eqb}
 use lib.Ieee.{toUnsigned}
 use Rattle.machine.specs.Source.{Values}
 use Rattle.machine.specs.declared.source.Place.{Place}
-use Rattle.samples.specs.Dist.{distAt, sample, gotWhole, wholeOf}
-use Rattle.samples.specs.declared.dist.WholeDrawn.{WholeDrawn}
+use Rattle.dists.specs.Dist.{distAt, sample, gotWhole, wholeOf}
+use Rattle.dists.specs.declared.WholeDrawn.{WholeDrawn}
 
 -- Counter::sample_value of the counter that begins at word k: cut, not rounded, capped at the largest u64; no distribution gives 1.
 unfoldable pub sampleValue : List ℕ → ℕ → Values Place → Place → WholeDrawn

@@ -1,5 +1,3 @@
--- What is drawn, as functions on lists of words and of draws.
-pub mod Dist
+-- What actions and counters draw, as functions on lists of words and of draws.
 pub mod Counter
 pub mod Action
-pub mod Uniform

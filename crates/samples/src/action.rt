@@ -1,9 +1,9 @@
 // action.rs: what an action draws.
-use super::dist::ValueDrawn;
-use super::dist::Whole;
-use super::dist::WholeDrawn;
-use super::dist::sample_tape;
-use super::dist::sample_words;
+use dists::ValueDrawn;
+use dists::Whole;
+use dists::WholeDrawn;
+use dists::sample_tape;
+use dists::sample_words;
 use machine::constants::ABSENT;
 use machine::constants::ACTION;
 use machine::constants::BLOCK_OUTGOING;
@@ -22,7 +22,7 @@ ghost use Prim.Native.Nat.{min, _≤_};
 ghost use Rattle.machine.specs.Words.{lentValues};
 ghost use Rattle.numbers.specs.Round.{roundAway};
 ghost use Rattle.machine.specs.Constants.{stateWords};
-ghost use Rattle.samples.specs.Dist.{distAt, sample, wholeOf};
+ghost use Rattle.dists.specs.Dist.{distAt, sample, wholeOf};
 ghost use Rattle.samples.specs.Action.{sampleTimeout, sampleDuration, hasLimit, sampleLimit};
 
 // A sample of the distribution that begins at word k: here the sources part.

@@ -1,9 +1,9 @@
 // counter.rs: what a counter changes by.
-use super::dist::ValueDrawn;
-use super::dist::Whole;
-use super::dist::WholeDrawn;
-use super::dist::sample_tape;
-use super::dist::sample_words;
+use dists::ValueDrawn;
+use dists::Whole;
+use dists::WholeDrawn;
+use dists::sample_tape;
+use dists::sample_words;
 use machine::constants::ABSENT;
 use machine::constants::COUNTER_DIST;
 use machine::source::Place;
@@ -13,7 +13,7 @@ ghost use Prim.Native.Nat.{_+_, _≤_};
 ghost use Rattle.machine.specs.Constants.{stateWords};
 ghost use Rattle.machine.specs.Words.{lentValues};
 ghost use lib.Ieee.{toUnsigned};
-ghost use Rattle.samples.specs.Dist.{wholeOf};
+ghost use Rattle.dists.specs.Dist.{wholeOf};
 ghost use Rattle.samples.specs.Counter.{sampleValue};
 
 // A drawn value cut to a whole number, not rounded.

@@ -1,4 +1,3 @@
-// What is drawn: distributions, and what actions and counters sample from them.
-pub mod dist; // dist.rs
+// What actions and counters sample from their distributions.
 pub mod counter; // counter.rs
 pub mod action; // action.rs

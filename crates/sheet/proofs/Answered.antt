@@ -7,15 +7,16 @@ use lib.ListN.{length, drop}
 use borrow.Author.Tests.{leb-true}
 use lib.Dec.{leb}
 use Rattle.machine.specs.Constants.{machineWords, stateWords, transitionWords}
+use Rattle.lines.specs.Lines.{tableOf}
 use Rattle.sheet.specs.Sheet.{bytesOf, sheetOf}
 use Rattle.sheet.specs.Writer.{wholeRows, writeRefusal, over, Written, sheetWrite, Writes}
-use Rattle.sheet.specs.Reader.{tableOf, machineLines, stateLines, transitionLines, behindMachines, behindStates, formOf, roomFor, readRefusal, noRows, Read, sheetRead, Reads}
+use Rattle.sheet.specs.Reader.{machineLines, stateLines, transitionLines, behindMachines, behindStates, formOf, roomFor, readRefusal, noRows, Read, sheetRead, Reads}
 use Rattle.sheet.specs.RoundTrip.Form.{length-machines, length-states, length-transitions}
 use Rattle.sheet.specs.RoundTrip.Calls.{reads}
-use Rattle.sheet.proofs.Written.{length-sheet}
 use Rattle.sheet.specs.declared.SheetRows.{SheetRows}
 use Rattle.sheet.specs.declared.SheetBytes.{SheetBytes}
 use Rattle.sheet.specs.declared.reading.Form.{Form}
+use Rattle.sheet.proofs.Written.{length-sheet}
 
 -- ---- the reader
 

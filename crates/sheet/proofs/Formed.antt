@@ -10,10 +10,11 @@ use lib.Seq.{drop-drop}
 use borrow.Author.Tests.{eqb-true, eqb-false, eq-eqb, ne-eqb}
 use Rattle.machine.specs.Constants.{machineWords, stateWords, transitionWords}
 use Rattle.machine.specs.Part.{from}
-use Rattle.sheet.specs.Sheet.{machineKind, stateKind, transitionKind, lineBytes}
-use Rattle.sheet.specs.Reader.{lines, behind, machineLines, stateLines, transitionLines, behindMachines, behindStates, behindTransitions, formOf}
+use Rattle.lines.specs.Lines.{lineBytes, lines, behind}
+use Rattle.sheet.specs.Sheet.{machineKind, stateKind, transitionKind}
+use Rattle.sheet.specs.Reader.{machineLines, stateLines, transitionLines, behindMachines, behindStates, behindTransitions, formOf}
 use Rattle.sheet.specs.declared.reading.Form.{Form}
-use Rattle.sheet.proofs.Kind.{to-end}
+use Rattle.lines.proofs.Kind.{to-end}
 
 -- nothing is left where the parts are as long as the whole
 left-none : (len k : ℕ) → k ≤ len → eqb len k ≡ eqb (len - k) 0

@@ -1,106 +1,16 @@
--- What a store does to a sheet: a row grows cell by cell, a line is its kind, its cells and a line feed, and a table grows
--- line by line.
-use Prim.Native.Nat.{ℕ, zero, suc, _+_, _-_, _*_, _/_, _≤_, _<_}
-use mathlib.Core.Path.{_≡_, sym, ap, _∙_}
-use mathlib.Core.List.{List, [], _∷_, _++_, append-assoc, append-nil}
+-- What a store does to a sheet: the lines of each kind stand behind those of the kind before.
+use Prim.Native.Nat.{ℕ, _+_, _*_, _/_}
+use mathlib.Core.Path.{_≡_, sym, _∙_}
+use mathlib.Core.List.{List, _++_, append-assoc}
 use native.Mathlib.Omega.{arith}
-use native.Mathlib.Numerals.{add-one}
-use lib.ListN.{length, take, drop, set, getD, length-append, length-drop}
-use lib.Seq.{take-length, length-take-le}
+use lib.ListN.{length, drop, length-append}
 use Rattle.machine.specs.Constants.{machineWords, stateWords, transitionWords}
-use Rattle.text.specs.Columns.{right, cellIn}
 use Rattle.machine.specs.Part.{through, from, written}
-use Rattle.text.proofs.Cells.{Upto, start, more, cell, feed, lent}
-use Rattle.sheet.specs.Sheet.{machineKind, stateKind, transitionKind, kindColumns, wordColumns, lineBytes, bytesOf, each, cells, lineOf, linesOf, sheetOf}
+use Rattle.cells.specs.Cells.{each}
+use Rattle.lines.specs.Lines.{lineBytes, lineOf, linesOf}
+use Rattle.lines.specs.RoundTrip.Tables.{length-lines}
+use Rattle.sheet.specs.Sheet.{machineKind, stateKind, transitionKind, bytesOf, sheetOf}
 use Rattle.sheet.specs.Writer.{over}
-use Rattle.sheet.specs.Laws.{each-more}
-use Rattle.sheet.specs.RoundTrip.Cells.{length-cells}
-use Rattle.sheet.specs.RoundTrip.Lines.{kept}
-use Rattle.sheet.specs.RoundTrip.Tables.{length-lines}
-
--- ---- the cells of a row
-
--- the cell of a word stands behind those of the words before it
-cells-more : (row : List ℕ) (i : ℕ) → i < length row
-    → cells (take (suc i) row) ≡ cells (take i row) ++ right wordColumns (getD row i 0)
-unfolding cells
-cells-more [] i h = absurd (omega (arith, h))
-cells-more (word ∷ row) zero h = append-nil (right wordColumns word)
-cells-more (word ∷ row) (suc i) h =
-    ap (λ (l : List ℕ). right wordColumns word ++ l) (cells-more row i (omega (arith, h)))
-    ∙ sym (append-assoc (right wordColumns word) (cells (take i row)) (right wordColumns (getD row i 0)))
-
-module _ (row o : List ℕ) where
-  -- the cells of the first i words stand
-  abbrev pub Celled : ℕ → List ℕ → Type 0
-  Celled i out = Upto o (cells (take i row)) (wordColumns * i) out
-
-  -- no cell yet
-  pub no-cell : Celled 0 o
-  unfolding cells
-  no-cell = start o
-
-  -- a cell more
-  pub one-cell : (out out′ : List ℕ) (i : ℕ) → i < length row → Celled i out
-      → out′ ≡ cellIn (wordColumns * i) wordColumns (getD row i 0) out
-      → Celled (i + 1) out′
-  one-cell out out′ i h u y =
-      let e : wordColumns * (i + 1) ≡ wordColumns * i + wordColumns = omega arith in
-      rw (e, add-one, cells-more row i h) (cell wordColumns (getD row i 0) u y)
-
-  -- all cells
-  pub all-cells : (out : List ℕ) (i : ℕ) → i ≡ length row → Celled i out
-      → out ≡ cells row ++ drop (wordColumns * length row) o
-  all-cells out i e u = rw (e, take-length row) at (u .is)
-
--- ---- a line
-
-pub lined : (kind : ℕ) (row o : List ℕ) {out : List ℕ} (ys : List ℕ) → lineBytes (length row) ≤ length o
-    → length out ≡ length o
-    → out ≡ cellIn 0 kindColumns kind o
-    → ys ≡ cells row ++ drop (wordColumns * length row) (from out kindColumns)
-    → set (through out kindColumns ys) (kindColumns + wordColumns * length row) 10
-    ≡ lineOf kind row ++ drop (lineBytes (length row)) o
-unfolding lineOf
-lined kind row o {out} ys h l e y =
-    let k : ℕ = wordColumns * length row in
-    let u = cell kindColumns kind (start o) e in
-    let v = more (cells row) k (length-cells row) u (lent out (cells row) ys kindColumns k (omega arith) y) in
-    feed (lineBytes (length row)) v (omega arith) (omega arith) .is ∙ simp append-assoc
-
--- ---- the lines of a table
-
-module _ (kind words : ℕ) (table o : List ℕ) where
-  -- the lines of the first i rows stand
-  abbrev pub Lines : ℕ → ℕ → List ℕ → Type 0
-  Lines i at out = Upto o (each (lineOf kind) words i table) at out
-
-  -- no line yet
-  pub no-line : Lines 0 0 o
-  unfolding each
-  no-line = start o
-
-  -- a line more
-  pub one-line : (out ys : List ℕ) (row size at i : ℕ) → row ≡ words * i → row + words ≤ length table
-      → size ≡ lineBytes words
-      → at ≤ length out
-      → Lines i at out
-      → (let r = take (row + words - row) (drop row table) in ys ≡ lineOf kind r ++ drop (lineBytes (length r)) (from out at))
-      → Lines (i + 1) (at + size) (through out at ys)
-  one-line out ys row size at i e h s l u y =
-      let r : List ℕ = take words (drop row table) in
-      let w : row + words - row ≡ words = omega arith in
-      let n : length r ≡ words = length-take-le words (drop row table) (omega (arith, length-drop row table)) in
-      let q : ys ≡ lineOf kind r ++ drop size (from out at) = rw (w, n, ← s) at y in
-      rw (add-one, each-more (lineOf kind) words i table, ← e)
-      (more (lineOf kind r) size (kept kind words .long r n ∙ sym s) u (lent out (lineOf kind r) ys at size l q))
-
-  -- all lines
-  pub all-lines : (out : List ℕ) (size at i n : ℕ) → i ≡ n → at ≡ size * i → Lines i at out
-      → out ≡ each (lineOf kind) words n table ++ drop (size * n) o
-  all-lines out size at i n e k u = rw (k, e) at (u .is)
-
--- ---- the sheet
 
 module _ (M S T : List ℕ) where
   abbrev m : ℕ

@@ -1,67 +1,19 @@
 -- What the reader answers and leaves. It judges the sheet's form only. 22: a malformed or misplaced line; 23: a lent table is
 -- too small, looked at only where the form has passed.
-use Prim.Native.Nat.{ℕ, zero, suc, _+_, _*_, _/_, _^_}
+use Prim.Native.Nat.{ℕ, _*_}
 use mathlib.Core.Bool.{Bool, cond, _&&_}
-use mathlib.Core.List.{List, [], _∷_}
+use mathlib.Core.List.{List}
 use mathlib.Core.Path.{_≡_}
-use lib.Dec.{eqb, ltb, leb}
-use lib.ListN.{length, take, drop, getD}
+use lib.Dec.{eqb, leb}
+use lib.ListN.{length}
 use Rattle.machine.specs.Constants.{machineWords, stateWords, transitionWords}
-use Rattle.machine.specs.Same.{same}
-use Rattle.text.specs.Columns.{right}
-use Rattle.text.specs.Fits.{readBack}
-use Rattle.sheet.specs.Sheet.{each, machineKind, stateKind, transitionKind, kindColumns, wordColumns, lineBytes}
+use Rattle.lines.specs.Lines.{lines, tableOf, behind}
+use Rattle.sheet.specs.Sheet.{machineKind, stateKind, transitionKind}
 use Rattle.sheet.specs.Writer.{over}
 use Rattle.sheet.specs.declared.SheetRows.{SheetRows}
-use Rattle.sheet.specs.declared.cell.Cell.{Cell}
 use Rattle.sheet.specs.declared.reading.Form.{Form}
 
--- how many times in a row, and at most n times, the next `step` elements pass the test
-unfoldable pub leading : (List ℕ → Bool) → ℕ → ℕ → List ℕ → ℕ
-leading test step zero xs = 0
-leading test step (suc n) xs = cond (test (take step xs)) (suc (leading test step n (drop step xs))) 0
-
--- ---- a line
-
--- what the writer puts for a word: the bytes are the columns of the number that they spell, which is a u64. (Bytes other than
--- spaces and digits spell something too, but stand in no number's columns.)
-unfoldable pub isCell : List ℕ → Bool
-isCell bytes = ltb (readBack bytes) (2 ^ 64) && same bytes (right wordColumns (readBack bytes))
-
--- a cell with its word, 0 where it is none
-unfoldable pub cellOf : List ℕ → Cell
-cellOf bytes = record { good = isCell bytes; word = cond (isCell bytes) (readBack bytes) 0 }
-
--- a line of this kind, with so many words
-unfoldable pub isLine : ℕ → ℕ → List ℕ → Bool
-isLine kind words line =
-    same (take kindColumns line) (right kindColumns kind)
-    && (eqb (leading isCell wordColumns words (drop kindColumns line)) words
-    && eqb (getD line (kindColumns + wordColumns * words) 0) 10)
-
--- the words of a line, cell by cell
-abbrev pub wordIn : List ℕ → List ℕ
-wordIn bytes = cellOf bytes .word ∷ []
-
-unfoldable pub wordsOf : ℕ → List ℕ → List ℕ
-wordsOf words line = each wordIn wordColumns words (drop kindColumns line)
-
--- ---- the lines of one kind at the front of a text
-
--- how many there are
-unfoldable pub lines : ℕ → ℕ → List ℕ → ℕ
-lines kind words text = leading (isLine kind words) (lineBytes words) (length text / lineBytes words) text
-
--- the table of the first n lines
-unfoldable pub tableOf : ℕ → ℕ → List ℕ → List ℕ
-tableOf words n text = each (wordsOf words) (lineBytes words) n text
-
--- what follows n of them
-unfoldable pub behind : ℕ → ℕ → List ℕ → List ℕ
-behind words n text = drop (lineBytes words * n) text
-
--- ---- the sheet
-
+-- the lines of each kind, and what stands behind them
 unfoldable pub machineLines : List ℕ → ℕ
 machineLines sheet = lines machineKind machineWords sheet
 

@@ -1,9 +1,4 @@
 -- What is written reads back, and what is read is what would be written.
-pub mod U64
-pub mod Pieces
-pub mod Cells
-pub mod Lines
-pub mod Tables
 pub mod Form
 pub mod Calls
 use Prim.Native.Nat.{ℕ, _*_, _/_, _≤_}
@@ -18,7 +13,7 @@ use Rattle.machine.specs.Constants.{machineWords, stateWords, transitionWords}
 use Rattle.sheet.specs.Sheet.{sheetOf}
 use Rattle.sheet.specs.Writer.{over, sheetWrite}
 use Rattle.sheet.specs.Reader.{machineLines, stateLines, transitionLines, formOf, Read, sheetRead}
-pub use U64.{Words}
+pub use Rattle.cells.specs.RoundTrip.U64.{Words}
 pub use Form.{machinesOf, statesOf, transitionsOf, sheet-is-whole, whole-is-sheet, tables-are-sound}
 use Form.{Sound}
 use Form.{machines-counted, states-counted, transitions-counted, machines-read, states-read, transitions-read}

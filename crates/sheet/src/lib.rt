@@ -13,10 +13,9 @@ ghost use Rattle.sheet.specs.Sheet.{bytesOf};
 ghost use Rattle.sheet.specs.Reader.{noRows, roomFor, Reads};
 ghost use Rattle.sheet.specs.Writer.{wholeRows, Writes};
 
-mod cell; // a word in its columns
-pub mod line; // the columns of a line
-mod reading; // lines to rows
-mod writing; // rows to lines
+pub mod line; // the lines of the three kinds
+mod reading; // a sheet to its tables
+mod writing; // the tables to their sheet
 
 // What the reader answers: the refusal or 0, and how many rows it read into each table.
 #[repr(C)]

@@ -1,4 +1,6 @@
-// The columns of a line.
+// The lines of the three kinds.
+use cells::WORD_COLUMNS;
+use lines::KIND_COLUMNS;
 use machine::constants::MACHINE_WORDS;
 use machine::constants::STATE_WORDS;
 use machine::constants::TRANSITION_WORDS;
@@ -9,11 +11,6 @@ pub const MACHINE_KIND: u64 = 1;
 pub const STATE_KIND: u64 = 2;
 
 pub const TRANSITION_KIND: u64 = 3;
-
-// The columns of a kind, and of a word.
-pub const KIND_COLUMNS: usize = 4;
-
-pub const WORD_COLUMNS: usize = 21;
 
 // The bytes of a line of each kind, with its line feed.
 pub const MACHINE_LINE: usize = KIND_COLUMNS + WORD_COLUMNS * MACHINE_WORDS + 1;

@@ -7,7 +7,7 @@ use lib.Ieee.{ofBits, le}
 use Rattle.numbers.specs.Finite.{zeroF}
 use Rattle.machine.specs.Source.{Source}
 use Rattle.machine.specs.declared.source.Place.{Place}
-use Rattle.tables.specs.First.{orElse}
+use Rattle.rows.specs.First.{orElse}
 use Rattle.tables.specs.Framework.{isFraction, fractionsRefusal}
 use Rattle.tables.specs.Machine.{tablesRefusal}
 use Rattle.steps.specs.Events.{Tables}

@@ -7,7 +7,7 @@ use lib.ListN.{length, take, replicate}
 use Rattle.machine.specs.Constants.{machineWords, stateWords, transitionWords}
 use Rattle.tables.specs.Machine.{tablesRefusal}
 use Rattle.text.specs.Columns.{right}
-use Rattle.sheet.specs.Sheet.{lineBytes}
+use Rattle.lines.specs.Lines.{lineBytes}
 use Rattle.sheet.specs.Reader.{noRows, sheetRead}
 use Rattle.sheet.specs.declared.SheetRows.{SheetRows}
 

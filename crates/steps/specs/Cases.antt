@@ -15,12 +15,12 @@ use Rattle.machine.specs.Source.{tapeValues, tapes, place, chanceDraw}
 use Rattle.machine.specs.State.{rowsOf, walk, sampleState}
 use Rattle.machine.specs.declared.state.Next.{Next}
 use Rattle.machine.specs.declared.state.Next.the-variants.{State}
-use Rattle.samples.specs.Dist.{distType, distAt, uniformDraw, outsideDraw, distSample, orZero, capped, adjusted, sample, gotWhole}
+use Rattle.dists.specs.Dist.{distType, distAt, uniformDraw, outsideDraw, distSample, orZero, capped, adjusted, sample, gotWhole}
 use Rattle.samples.specs.Action.{sampleTimeout, sampleLimit, hasLimit}
 use Rattle.samples.specs.Counter.{sampleValue}
-use Rattle.samples.specs.declared.dist.DistType.the-variants.{Outside}
-use Rattle.samples.specs.declared.dist.Dist.{Dist}
-use Rattle.samples.specs.declared.dist.WholeDrawn.{WholeDrawn}
+use Rattle.dists.specs.declared.DistType.the-variants.{Outside}
+use Rattle.dists.specs.declared.Dist.{Dist}
+use Rattle.dists.specs.declared.WholeDrawn.{WholeDrawn}
 use Rattle.steps.specs.Limits.{belowFraction, belowLimitPadding, belowActionLimits}
 use Rattle.steps.specs.Transition.{Env, env, noAction, enter, applied, updateOne, tallyA, tallyB, updateCounters, updateCounter, finish, transitionBy, zeroTransition, transition}
 use Rattle.steps.specs.Framework.{sharedFrom}

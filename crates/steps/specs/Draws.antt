@@ -15,16 +15,16 @@ use Rattle.machine.specs.Words.{valueOf, wordValue, words}
 use Rattle.machine.specs.declared.source.Place.{Place}
 use Rattle.machine.specs.declared.source.ChanceDrawn.{ChanceDrawn}
 use Rattle.machine.specs.declared.source.ChanceDrawn.the-variants.{Refused, GotChance}
-use Rattle.samples.specs.Dist.{distAt, valueDrawn, uniformDraw, outsideDraw, sampleOfType, distSample, adjustedDraw, sample, wholeOf}
+use Rattle.dists.specs.Dist.{distAt, valueDrawn, uniformDraw, outsideDraw, sampleOfType, distSample, adjustedDraw, sample, wholeOf}
 use Rattle.samples.specs.Action.{actionOf, hasTimeout, hasDuration, hasLimit, sampleTimeout, sampleDuration, sampleLimit}
 use Rattle.samples.specs.Counter.{sampleValue}
-use Rattle.samples.specs.declared.dist.DistType.{DistType}
-use Rattle.samples.specs.declared.dist.DistType.the-variants.{Absent, Uniform, Outside}
-use Rattle.samples.specs.declared.dist.Dist.{Dist}
-use Rattle.samples.specs.declared.dist.ValueDrawn.{ValueDrawn}
-use Rattle.samples.specs.declared.dist.ValueDrawn.the-variants.{Refused, GotValue}
-use Rattle.samples.specs.declared.dist.WholeDrawn.{WholeDrawn}
-use Rattle.samples.specs.declared.dist.WholeDrawn.the-variants.{Refused, GotWhole}
+use Rattle.dists.specs.declared.DistType.{DistType}
+use Rattle.dists.specs.declared.DistType.the-variants.{Absent, Uniform, Outside}
+use Rattle.dists.specs.declared.Dist.{Dist}
+use Rattle.dists.specs.declared.ValueDrawn.{ValueDrawn}
+use Rattle.dists.specs.declared.ValueDrawn.the-variants.{Refused, GotValue}
+use Rattle.dists.specs.declared.WholeDrawn.{WholeDrawn}
+use Rattle.dists.specs.declared.WholeDrawn.the-variants.{Refused, GotWhole}
 use Rattle.steps.specs.Transition.{returnedFlags, returnedTimer, withDuration, withTimeout, scheduleAction, changedBy, changeOf, updateOne, withA, withB, tallied, tallyA, tallyB, counterSteps, andTally, tallyEach, untallied, updateCounters}
 use Rattle.steps.specs.Runs.{either}
 use Rattle.steps.specs.declared.TriggerAction.{TriggerAction}

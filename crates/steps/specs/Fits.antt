@@ -17,7 +17,7 @@ use Rattle.machine.specs.Event.{signal}
 use Rattle.machine.specs.Source.{Source, Telling, tapes}
 use Rattle.machine.specs.Words.{words}
 use Rattle.machine.specs.declared.source.Place.{Place}
-use Rattle.tables.specs.First.{orElse}
+use Rattle.rows.specs.First.{orElse}
 use Rattle.tables.specs.Machine.{tablesRefusal}
 use Rattle.tables.specs.Valid.Laws.{zero-valid}
 use Rattle.steps.specs.Limits.{belowActionLimits}

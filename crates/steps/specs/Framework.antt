@@ -13,10 +13,10 @@ use Rattle.machine.specs.Event.{timerEndKind}
 use Rattle.machine.specs.State.{stateRow}
 use Rattle.machine.specs.declared.source.Place.{Place}
 use Rattle.samples.specs.Action.{actionOf, sampleLimit}
-use Rattle.samples.specs.Dist.{gotWhole}
-use Rattle.samples.specs.declared.dist.WholeDrawn.{WholeDrawn}
-use Rattle.samples.specs.declared.dist.WholeDrawn.the-variants.{Refused, GotWhole}
-use Rattle.tables.specs.First.{orElse}
+use Rattle.dists.specs.Dist.{gotWhole}
+use Rattle.dists.specs.declared.WholeDrawn.{WholeDrawn}
+use Rattle.dists.specs.declared.WholeDrawn.the-variants.{Refused, GotWhole}
+unfoldable pub use Rattle.rows.specs.First.{orElse}
 use Rattle.tables.specs.Framework.{fractionsRefusal}
 use Rattle.tables.specs.Machine.{tablesRefusal}
 use Rattle.steps.specs.Transition.{noAction, withPlace}

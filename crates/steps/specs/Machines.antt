@@ -13,8 +13,8 @@ use Rattle.machine.specs.Source.{Source}
 use Rattle.machine.specs.State.{stateRow}
 use Rattle.machine.specs.declared.source.Place.{Place}
 use Rattle.samples.specs.Action.{actionOf}
-use Rattle.samples.specs.declared.dist.WholeDrawn.{WholeDrawn}
-use Rattle.samples.specs.declared.dist.WholeDrawn.the-variants.{Refused, GotWhole}
+use Rattle.dists.specs.declared.WholeDrawn.{WholeDrawn}
+use Rattle.dists.specs.declared.WholeDrawn.the-variants.{Refused, GotWhole}
 use Rattle.steps.specs.Transition.{noAction, transition}
 use Rattle.steps.specs.Events.{Tables, Run, Outcome, numMachines, noRuntime, runtimeAt, machineWord, statesOf, envOf, stored, withCounts, limitFalls, turn, machineTurn, pendingOf, signalMachine}
 use Rattle.steps.specs.Framework.{sharedFrom, noActions, newFramework, newRuntime, startLimit, openedWith, openMachine, opened, openTurn, rowsIn, openRun, triggerEvents}

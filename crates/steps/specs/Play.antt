@@ -17,9 +17,9 @@ use Rattle.machine.specs.Source.{Drawn, no, got, Source}
 use Rattle.machine.specs.Event.{counterZero, signal}
 use Rattle.machine.specs.declared.source.Place.{Place}
 use Rattle.samples.specs.Action.{hasTimeout, hasDuration, hasLimit}
-use Rattle.samples.specs.Dist.{distAt, validUniform}
-use Rattle.samples.specs.declared.dist.DistType.{DistType}
-use Rattle.samples.specs.declared.dist.DistType.the-variants.{Absent, Uniform, Outside}
+use Rattle.dists.specs.Dist.{distAt, validUniform}
+use Rattle.dists.specs.declared.DistType.{DistType}
+use Rattle.dists.specs.declared.DistType.the-variants.{Absent, Uniform, Outside}
 
 pub data Play (A : Type 0) : Type 0 where
   ends : A → Play A

@@ -9,7 +9,7 @@ use lib.Ieee.{Float}
 use lib.ListN.{length}
 use Rattle.machine.specs.Source.{Source, tapes}
 use Rattle.machine.specs.declared.source.Place.{Place}
-use Rattle.tables.specs.First.{orElse}
+use Rattle.rows.specs.First.{orElse}
 use Rattle.tables.specs.Framework.{isFraction, fractionsRefusal}
 use Rattle.tables.specs.Machine.{tablesRefusal}
 use Rattle.tables.specs.Valid.{TransitionAnswer, transition-passes, nine, ten, eleven, twelve, PairAnswer, pair-passes, eight, first-transition, thirteen}

@@ -14,7 +14,7 @@ use borrow.Author.Tests.{leb-true, ltb-true, ltb-false, eqb-true, eqb-false}
 use Rattle.machine.specs.Source.{Source}
 use Rattle.machine.specs.Event.{normalSent, paddingSent}
 use Rattle.machine.specs.declared.source.Place.{Place}
-use Rattle.tables.specs.First.{orElse}
+use Rattle.rows.specs.First.{orElse}
 use Rattle.steps.specs.Events.{Tables, Run, Outcome, stop, go, andThen, each, numMachines, ownOnly, machineTurn, account, firstFor, turnsFor, blockedNow, processEvent, kindAt, machineAt, eventTurn, pendingOf, unsignalled, signalMachine, signalTurn, lastSignal, signals}
 use Rattle.steps.specs.Framework.{openRun, openedBy, openRefusal, opening, begin, triggerEvents, batchRefusal, Batch, refused, accepted, concluded, batch}
 use Rattle.steps.specs.declared.Framework.{Framework}

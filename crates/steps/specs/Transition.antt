@@ -17,9 +17,9 @@ use Rattle.machine.specs.declared.state.Next.{Next}
 use Rattle.machine.specs.declared.state.Next.the-variants.{State, Nothing}
 use Rattle.samples.specs.Action.{actionOf, sampleTimeout, sampleDuration, sampleLimit, hasLimit}
 use Rattle.samples.specs.Counter.{sampleValue}
-use Rattle.samples.specs.Dist.{gotWhole}
-use Rattle.samples.specs.declared.dist.WholeDrawn.{WholeDrawn}
-use Rattle.samples.specs.declared.dist.WholeDrawn.the-variants.{Refused, GotWhole}
+use Rattle.dists.specs.Dist.{gotWhole}
+use Rattle.dists.specs.declared.WholeDrawn.{WholeDrawn}
+use Rattle.dists.specs.declared.WholeDrawn.the-variants.{Refused, GotWhole}
 use Rattle.steps.specs.Limits.{flagsOf, belowActionLimits}
 use Rattle.steps.specs.declared.MachineRuntime.{MachineRuntime}
 use Rattle.steps.specs.declared.Context.{Context}

@@ -17,8 +17,8 @@ use Rattle.machine.specs.declared.source.ChanceDrawn.the-variants.{Refused, Got
 use Rattle.machine.specs.declared.state.Next.{Next}
 use Rattle.machine.specs.declared.state.Next.the-variants.{State, Nothing}
 use Rattle.samples.specs.Action.{sampleLimit, hasLimit}
-use Rattle.samples.specs.declared.dist.WholeDrawn.{WholeDrawn}
-use Rattle.samples.specs.declared.dist.WholeDrawn.the-variants.{Refused, GotWhole}
+use Rattle.dists.specs.declared.WholeDrawn.{WholeDrawn}
+use Rattle.dists.specs.declared.WholeDrawn.the-variants.{Refused, GotWhole}
 use Rattle.steps.specs.Limits.{belowActionLimits}
 use Rattle.steps.specs.Transition.{Env, noAction, withState, withCounters, withPlace, withTally, enteredWith, enter, raise, scheduleAction, updateCounters, hasChanged, scheduledStep, finish, finished, afterZero, afterCounters, updateCounter, entering, going, drawn, choosing, transitionBy, zeroTransition, transition, decrementLimit}
 use Rattle.steps.specs.Events.{countedBy, afterTransition, turn}

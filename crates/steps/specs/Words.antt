@@ -17,7 +17,7 @@ use Rattle.machine.specs.Words.{words}
 use Rattle.machine.specs.Words.Laws.{words-tell}
 use Rattle.machine.specs.declared.source.Place.{Place}
 use Rattle.tables.specs.Machine.{tablesRefusal}
-use Rattle.tables.specs.Outside.{drawsOutside}
+use Rattle.outside.specs.Outside.{drawsOutside}
 use Rattle.steps.specs.Events.{Tables, stop}
 use Rattle.steps.specs.Framework.{openRefusal, openedBy, opening, Batch, refused, batch}
 use Rattle.steps.specs.declared.AnswerWords.{AnswerWords}

@@ -13,10 +13,11 @@ use Rattle.machine.specs.Constants.{action, timeout, sendPadding, stateLimitMax
 use Rattle.machine.specs.Event.{eventOf, normalSent}
 use Rattle.machine.specs.Source.{tapes, chanceDraw}
 use Rattle.machine.specs.State.{rowsOf, walk, sampleState}
-use Rattle.samples.specs.Dist.{distType, distAt, validUniform, validate, uniformDraw, distSample, orZero, capped, adjusted, sample}
+use Rattle.dists.specs.Dist.{distType, distAt, validUniform, validate, uniformDraw, distSample, orZero, capped, adjusted, sample}
 use Rattle.samples.specs.Action.{sampleTimeout, sampleDuration, sampleLimit, hasLimit}
-use Rattle.tables.specs.First.{orElse, firstRefusal}
-use Rattle.tables.specs.State.{eventsRefusal, pairRefusal, rowRefusal, sumRefusal, transitionRefusal, isTarget, improbable, seenIn, sumFrom, codesUnknown, actionUnknown, commonUnknown, neededUnknown, counterUnknown, distsInvalid, actionInvalid, counterInvalid, invalid, stateRefusal}
+use Rattle.rows.specs.First.{orElse, firstRefusal}
+use Rattle.rows.specs.Row.{pairRefusal, rowRefusal, sumRefusal, transitionRefusal, isTarget, improbable, seenIn, sumFrom}
+use Rattle.tables.specs.State.{eventsRefusal, codesUnknown, actionUnknown, commonUnknown, neededUnknown, counterUnknown, distsInvalid, actionInvalid, counterInvalid, invalid, stateRefusal}
 use Rattle.tables.specs.Machine.{beyondFraction, eachState, statesRefusal, machineRefusal, wholeTables, tablesRefusal}
 use Rattle.tables.specs.Framework.{isFraction, fractionsRefusal}
 use Rattle.steps.specs.Limits.{belowFraction, belowLimitPadding, belowActionLimits}

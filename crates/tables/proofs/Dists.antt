@@ -4,8 +4,8 @@ use mathlib.Core.Path.{_≡_, refl}
 use mathlib.Core.Bool.{Bool, true, false, cond, not}
 use lib.Dec.{eqb}
 use lib.Ieee.{Float}
-use Rattle.samples.specs.Dist.{distType, validType, validUniform}
-use Rattle.samples.specs.declared.dist.DistType.the-variants.{Absent, Outside}
+use Rattle.dists.specs.Dist.{distType, validType, validUniform}
+use Rattle.dists.specs.declared.DistType.the-variants.{Absent, Outside}
 
 other : (b : Bool) → not (validType (cond b Absent Outside)) ≡ false
 other true = refl

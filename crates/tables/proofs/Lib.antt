@@ -1,6 +1,2 @@
-pub mod Rows
-pub mod Dists
-pub mod Bits
-pub mod Seen
+mod Dists
 pub mod Parts
-pub mod Words

@@ -1,8 +1,5 @@
 -- Which refusal the lent tables and the framework's fractions get, and what the tables are where they get none.
-pub mod First
 pub mod State
 pub mod Machine
 pub mod Framework
-pub mod Marks
 pub mod Valid
-pub mod Outside

@@ -7,8 +7,8 @@ use lib.Dec.{ltb, leb, eqb}
 use lib.Ieee.{Float, binary64, ofBits, lt}
 use Rattle.machine.specs.Constants.{stateMax, machineMax, machineWords, stateWords, transitionWords, maxPaddingFrac, maxBlockingFrac, firstState, numStates}
 use Rattle.machine.specs.State.{rowsOf, stateRow}
-use Rattle.samples.specs.Dist.{f64At}
-use Rattle.tables.specs.First.{firstRefusal}
+use Rattle.dists.specs.Dist.{f64At}
+use Rattle.rows.specs.First.{firstRefusal}
 use Rattle.tables.specs.State.{stateRefusal}
 
 -- below 0 or above 1; a NaN is neither

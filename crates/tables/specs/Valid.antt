@@ -12,9 +12,9 @@ use lib.ListN.{length, getD}
 use lib.Ieee.{Float, binary32, binary64, ofBits, lt, le}
 use Rattle.machine.specs.Constants.{stateEnd, stateSignal, stateMax, machineMax, eventNum, machineWords, stateWords, transitionWords, maxPaddingFrac, maxBlockingFrac, firstState, numStates, flags, timer, timeout, duration, limit, counterA, counterB, cancel, sendPadding, blockOutgoing, updateTimer}
 use Rattle.machine.specs.State.{rowsOf, stateRow, firstOf, countOf, targetAt, probabilityAt}
-use Rattle.samples.specs.Dist.{f64At, distAt, validate}
+use Rattle.dists.specs.Dist.{f64At, distAt, validate}
 use Rattle.samples.specs.Action.{actionOf}
-use Rattle.tables.specs.State.{probabilityWord, sumFrom}
+use Rattle.rows.specs.Row.{probabilityWord, sumFrom}
 
 -- ---- floats; a NaN is never below, at or above anything, so it passes
 -- a machine's fraction: neither below 0 nor above 1

@@ -1,6 +1,5 @@
 // The checks of what the sender lends at an opening and with each batch: refusals 1 to 15, each
-// answer the number of the first refusal in document 01's order, or 0; and whether anything is
-// drawn outside, refusal 24.
+// answer the number of the first refusal in document 01's order, or 0.
 use machine::constants::MACHINE_MAX;
 use machine::constants::MACHINE_WORDS;
 use machine::constants::STATE_WORDS;
@@ -12,13 +11,9 @@ ghost use lib.Dec.{eqb};
 ghost use Rattle.machine.specs.Constants.{machineWords};
 ghost use Rattle.tables.specs.Framework.{isFraction, fractionsRefusal};
 ghost use Rattle.tables.specs.Machine.{machinesRefusal, wholeTables, tablesRefusal};
-ghost use Rattle.tables.specs.Outside.{drawsOutside};
 
-mod marks; // the targets met in a long row
-mod row; // state.rs: a row of transitions
 mod state; // state.rs: a state
 mod machine_row; // machine.rs
-mod outside; // distributions that are drawn outside
 
 // 0.0 to 1.0; a NaN is not.
 fn is_fraction(x: f64) -> bool
@@ -98,19 +93,4 @@ pub fn check_tables(machines: &[u64], states: &[u64], transitions: &[u64]) -> u6
         );
     }
     3
-}
-
-// Refusal 24: whether a state of the machines uses a distribution that is drawn outside. Each machine
-// has its own part of the state table, no further than the table goes.
-pub fn draws_outside(machines: &[u64], states: &[u64]) -> bool
-    ensures { λ r. ⌜ r ≡ drawsOutside (now (machines .entry)) (now (states .entry)) ⌝ }
-{
-    let mut i = 0;
-    while (i + 1) * MACHINE_WORDS <= machines.len() {
-        if outside::machine_outside(machines, states, i) {
-            return true;
-        }
-        i = i + 1;
-    }
-    false
 }

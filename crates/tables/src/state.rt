@@ -14,7 +14,6 @@ use machine::constants::LIMIT;
 use machine::constants::SEND_PADDING;
 use machine::constants::TIMEOUT;
 use machine::constants::TIMER;
-use machine::constants::TRANSITION_WORDS;
 use machine::constants::UNIFORM;
 use machine::constants::UPDATE_TIMER;
 ghost use mathlib.Core.Path.{_≡_};
@@ -23,38 +22,22 @@ ghost use lib.ListN.{length, getD};
 ghost use lib.Dec.{ltb};
 ghost use Rattle.machine.specs.Constants.{stateWords, stateMax, eventNum};
 ghost use Rattle.machine.specs.State.{firstOf, countOf};
+ghost use Rattle.rows.specs.Row.{pairRefusal};
 ghost use Rattle.tables.specs.State as Spec;
 
 // ---- refusals 8 to 13: rows of transitions
 
-// A pair (first, count) with rows: that they are within the table, then each.
-fn check_pair(transitions: &[u64], n: u64, first: u64, count: u64) -> u64
-    requires { ⌜ n ≤ stateMax ⌝ ∗ ⌜ 0 < count ⌝ }
-    ensures { λ r. ⌜ r ≡ Spec.pairRefusal (now (transitions .entry)) n first count ⌝ }
-{
-    let first = first as usize;
-    let count = count as usize;
-    let rows = transitions.len() / TRANSITION_WORDS;
-    if rows < count {
-        return 8;
-    }
-    if rows - count < first {
-        return 8;
-    }
-    super::row::check_row(transitions, n, first, first + count)
-}
-
 // One event. Where its count is 0 it has no row, and its first row is not read.
 fn check_event(transitions: &[u64], n: u64, row: &[u64], event: u64) -> u64
     requires { ⌜ n ≤ stateMax ⌝ ∗ ⌜ length (now row) ≡ stateWords ⌝ ∗ ⌜ event < eventNum ⌝ }
-    ensures { λ r. ⌜ r ≡ Spec.pairRefusal (now (transitions .entry)) n (firstOf (now (row .entry)) event) (countOf (now (row .entry)) event) ⌝ }
+    ensures { λ r. ⌜ r ≡ pairRefusal (now (transitions .entry)) n (firstOf (now (row .entry)) event) (countOf (now (row .entry)) event) ⌝ }
 {
     let at = EVENTS + (event as usize) * 2;
     let count = row[at + 1];
     if count == 0 {
         return 0;
     }
-    check_pair(transitions, n, row[at], count)
+    rows::check_pair(transitions, n, row[at], count)
 }
 
 // Event by event, in the order of `Event`.
@@ -178,7 +161,7 @@ fn invalid(row: &[u64], k: usize) -> bool
     }
     let low = numbers::f64_of_word(row[k + 1]);
     let high = numbers::f64_of_word(row[k + 2]);
-    if samples::dist::valid_uniform(low, high) {
+    if dists::valid_uniform(low, high) {
         return false;
     }
     true

@@ -12,8 +12,8 @@ use Rattle.machine.specs.Constants.{counterA, counterB}
 use Rattle.machine.specs.Event.{counterZero}
 use Rattle.machine.specs.Source.{Values}
 use Rattle.machine.specs.declared.source.Place.{Place}
-use Rattle.samples.specs.declared.dist.WholeDrawn.{WholeDrawn}
-use Rattle.samples.specs.declared.dist.WholeDrawn.the-variants.{Refused, GotWhole}
+use Rattle.dists.specs.declared.WholeDrawn.{WholeDrawn}
+use Rattle.dists.specs.declared.WholeDrawn.the-variants.{Refused, GotWhole}
 use Rattle.steps.specs.Transition.{Env, withCounters, withTally, applied, counterOf, changedBy, changeOf, updateOne, tallied, withA, withB, tallyA, tallyB, counterSteps, andTally, tallyEach, untallied, updateCounters, unspent, left, afterZero, updateCounter, zeroTransition, transitionAt, updateCounterAt}
 use Rattle.steps.specs.declared.Counter.{Counter}
 use Rattle.steps.specs.declared.Counted.{Counted}

@@ -14,8 +14,8 @@ use Rattle.moves.specs.declared.settle.Moved.{Moved}
 use Rattle.moves.specs.declared.settle.Short.{Short}
 use Rattle.moves.specs.declared.settle.Short.the-variants.{Elsewhere, Kept, Acted}
 use Rattle.samples.specs.Action.{sampleLimit}
-use Rattle.samples.specs.declared.dist.WholeDrawn.{WholeDrawn}
-use Rattle.samples.specs.declared.dist.WholeDrawn.the-variants.{Refused, GotWhole}
+use Rattle.dists.specs.declared.WholeDrawn.{WholeDrawn}
+use Rattle.dists.specs.declared.WholeDrawn.the-variants.{Refused, GotWhole}
 use Rattle.steps.specs.Events.{afterTransition}
 use Rattle.steps.specs.Limits.{belowActionLimits}
 use Rattle.steps.specs.Transition.{Env, withState, withPlace, enteredWith, enter, scheduleAction, updateCounters, counted, hasChanged, scheduledStep, done}

@@ -1,5 +1,6 @@
 // The inner half of framework.rs: one machine's transition with its counter update, and the fall of
 // its state limit. One machine goes in and comes back.
+use counters::update_counters;
 use machine::constants::STATE_END;
 use machine::constants::STATE_SIGNAL;
 use machine::event::COUNTER_ZERO;
@@ -9,7 +10,6 @@ use machine::state::state_row;
 use moves::action::no_action;
 use moves::choice::Choice;
 use moves::choice::choose;
-use moves::counter::update_counters;
 use moves::step::after_zero;
 use moves::step::counted;
 use moves::step::done;

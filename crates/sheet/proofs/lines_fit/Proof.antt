@@ -2,7 +2,8 @@
 use Prim.Native.Nat.{_*_, _/_, _-_}
 use native.Mathlib.Omega.{arith}
 use Rattle.machine.specs.Constants.{machineWords, stateWords, transitionWords}
-use Rattle.sheet.specs.Sheet.{lineBytes, bytesOf}
+use Rattle.lines.specs.Lines.{lineBytes}
+use Rattle.sheet.specs.Sheet.{bytesOf}
 use mathlib.Core.Path.{sym}
 use borrow.Author.Tests.{lt-leb}
 use Rattle.sheet.proofs.Room.{both}

@@ -8,10 +8,10 @@ use lib.Dec.{eqb, leb}
 use lib.ListN.{length}
 use borrow.Author.Tests.{eqb-true, leb-true, le-leb}
 use Rattle.machine.specs.Constants.{machineWords, stateWords, transitionWords}
+use Rattle.cells.specs.RoundTrip.U64.{Words}
 use Rattle.sheet.specs.Sheet.{sheetOf}
 use Rattle.sheet.specs.Writer.{wholeRows, writeRefusal, over, sheetWrite}
 use Rattle.sheet.specs.Reader.{machineLines, stateLines, transitionLines, formOf, roomFor, readRefusal, sheetRead}
-use Rattle.sheet.specs.RoundTrip.U64.{Words}
 use Rattle.sheet.specs.RoundTrip.Form.{Sound, machinesOf, statesOf, transitionsOf}
 
 -- ---- the writer

@@ -10,12 +10,11 @@ use borrow.Author.Tests.{eqb-true}
 use Rattle.machine.specs.Constants.{machineWords, stateWords, transitionWords}
 use Rattle.text.specs.Columns.{right, rests}
 use Rattle.machine.specs.Same.{same}
-use Rattle.sheet.specs.Sheet.{machineKind, stateKind, transitionKind, kindColumns, linesOf, sheetOf}
-use Rattle.sheet.specs.Reader.{tableOf, formOf, machineLines, stateLines, transitionLines}
-use Rattle.sheet.specs.Reader.{behindMachines, behindStates, behindTransitions}
-use Rattle.sheet.specs.RoundTrip.U64.{Words}
-use Rattle.sheet.specs.RoundTrip.Tables.{Unlike, unlike-lines, lines-written, table-read, behind-written}
-use Rattle.sheet.specs.RoundTrip.Tables.{length-table, words-table, split}
+use Rattle.cells.specs.RoundTrip.U64.{Words}
+use Rattle.lines.specs.Lines.{kindColumns, linesOf, tableOf}
+use Rattle.lines.specs.RoundTrip.Tables.{Unlike, unlike-lines, lines-written, table-read, behind-written, length-table, words-table, split}
+use Rattle.sheet.specs.Sheet.{machineKind, stateKind, transitionKind, sheetOf}
+use Rattle.sheet.specs.Reader.{formOf, machineLines, stateLines, transitionLines, behindMachines, behindStates, behindTransitions}
 
 -- tables of whole rows of words
 pub record Sound (m s t : List ℕ) : Type 0 where

@@ -15,7 +15,7 @@ use Rattle.machine.specs.Source.{Drawn, no, got, Source}
 use Rattle.machine.specs.State.{stateRow}
 use Rattle.machine.specs.declared.source.Place.{Place}
 use Rattle.samples.specs.Action.{actionOf, sampleLimit}
-use Rattle.samples.specs.Dist.{gotWhole}
+use Rattle.dists.specs.Dist.{gotWhole}
 use Rattle.steps.specs.Transition.{noAction}
 use Rattle.steps.specs.Events.{Tables, Run, Outcome, stop, go, andThen, each, numMachines, runtimeAt, withRuntime, machineWord, contextOf, statesOf, stored, accounted, blockedNow, limitFalls, machineTurn, firstFor, turnsFor, ownOnly, processEvent, kindAt, machineAt, eventTurn, signalMachine, signalTurn, lastSignal, signals}
 use Rattle.steps.specs.Framework.{noneZeroed, noActions, withTime, newRuntime, startLimit, openedWith, openMachine, opened, openTurn, kindsFit}

@@ -13,14 +13,14 @@ use Rattle.numbers.specs.Round.{roundAway}
 use Rattle.machine.specs.Constants.{timeout, duration, limit, maxSampledTimeout, maxSampledDuration, stateLimitMax, counterA, counterB}
 use Rattle.machine.specs.Source.{Drawn, no, got, Source}
 use Rattle.machine.specs.declared.source.Place.{Place}
-use Rattle.samples.specs.Dist.{distAt, valueDrawn, uniformDraw, outsideDraw, sampleOfType, distSample, adjusted, adjustedDraw, sample, gotWhole, wholeOf}
+use Rattle.dists.specs.Dist.{distAt, valueDrawn, uniformDraw, outsideDraw, sampleOfType, distSample, adjusted, adjustedDraw, sample, gotWhole, wholeOf}
 use Rattle.samples.specs.Action.{actionOf, hasTimeout, hasDuration, hasLimit, sampleTimeout, sampleDuration, sampleLimit}
 use Rattle.samples.specs.Counter.{sampleValue}
-use Rattle.samples.specs.declared.dist.DistType.{DistType}
-use Rattle.samples.specs.declared.dist.DistType.the-variants.{Absent, Uniform, Outside}
-use Rattle.samples.specs.declared.dist.Dist.{Dist}
-use Rattle.samples.specs.declared.dist.WholeDrawn.{WholeDrawn}
-use Rattle.samples.specs.declared.dist.WholeDrawn.the-variants.{Refused}
+use Rattle.dists.specs.declared.DistType.{DistType}
+use Rattle.dists.specs.declared.DistType.the-variants.{Absent, Uniform, Outside}
+use Rattle.dists.specs.declared.Dist.{Dist}
+use Rattle.dists.specs.declared.WholeDrawn.{WholeDrawn}
+use Rattle.dists.specs.declared.WholeDrawn.the-variants.{Refused}
 use Rattle.steps.specs.Transition.{withState, unspent, enteredWith, enter, returnedFlags, returnedTimer, withDuration, withTimeout, scheduleAction, applied, reportsZero, changedBy, changeOf, updateOne, tallied, withA, withB, tallyA, tallyB, andTally, tallyEach, updateCounters}
 use Rattle.steps.specs.Play.{askUniform, askOutside, ends, after, Counts, one, TypeServed, RowServed, Plays, plays-end, plays-cond, plays-on, plays-then}
 use Rattle.steps.specs.declared.MachineRuntime.{MachineRuntime}

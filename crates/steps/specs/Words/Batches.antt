@@ -15,9 +15,9 @@ use borrow.Author.Tests.{ne-eqb}
 use Rattle.machine.specs.Source.{Source, tapes}
 use Rattle.machine.specs.Words.{words}
 use Rattle.machine.specs.declared.source.Place.{Place}
-use Rattle.tables.specs.First.{orElse}
+use Rattle.rows.specs.First.{orElse}
 use Rattle.tables.specs.Machine.{tablesRefusal}
-use Rattle.tables.specs.Outside.{drawsOutside}
+use Rattle.outside.specs.Outside.{drawsOutside}
 use Rattle.steps.specs.Events.{Tables}
 use Rattle.steps.specs.Framework.{rowsIn, fitsTables, eventsFit, triggerEvents, Batch, refused, concluded, batchRefusal, batch}
 use Rattle.steps.specs.Runs.{none-of}

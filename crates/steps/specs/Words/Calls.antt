@@ -8,7 +8,7 @@ use mathlib.Core.Path.{_≡_, refl, sym, ap, _∙_}
 use lib.Dec.{eqb}
 use borrow.Author.Tests.{eqb-true, eqb-false}
 use Rattle.machine.specs.declared.source.Place.{Place}
-use Rattle.tables.specs.Outside.{drawsOutside}
+use Rattle.outside.specs.Outside.{drawsOutside}
 use Rattle.steps.specs.Events.{Tables, Run, Outcome, stop, go}
 use Rattle.steps.specs.Words.{outsideRefused}
 use Rattle.steps.specs.Words.Tapes.{atPlace, Stops16}

@@ -11,7 +11,7 @@ use Rattle.machine.specs.Source.{no, got, fitChance, fitUniform, place}
 use Rattle.machine.specs.Words.{chanceOf, valueOf, wordChance, wordValue, words}
 use Rattle.machine.specs.Words.Laws.{chance-fits}
 use Rattle.machine.specs.declared.source.Place.{Place}
-use Rattle.samples.specs.Uniform.{uniform-fits}
+use Rattle.dists.specs.Uniform.{uniform-fits}
 use Rattle.steps.specs.Play.{Bounds}
 use Rattle.steps.specs.Play.Laws.{Fit, Honest}
 

@@ -15,10 +15,10 @@ use borrow.Author.Tests.{ne-eqb}
 use Rattle.machine.specs.Source.{Source, tapes}
 use Rattle.machine.specs.Words.{words}
 use Rattle.machine.specs.declared.source.Place.{Place}
-use Rattle.tables.specs.First.{orElse}
+use Rattle.rows.specs.First.{orElse}
 use Rattle.tables.specs.Framework.{isFraction, fractionsRefusal}
 use Rattle.tables.specs.Machine.{tablesRefusal}
-use Rattle.tables.specs.Outside.{drawsOutside}
+use Rattle.outside.specs.Outside.{drawsOutside}
 use Rattle.steps.specs.Events.{Tables, stop}
 use Rattle.steps.specs.Framework.{openRun, openedBy, openRefusal, opening, noFramework}
 use Rattle.steps.specs.Runs.{either, none-of}

@@ -16,10 +16,10 @@ use borrow.Author.Tests.{eqb-true, eqb-false}
 use Rattle.machine.specs.Constants.{timeout, duration, limit, counterA, counterB, machineWords, stateWords, firstState, numStates, sendPadding, blockOutgoing, updateTimer}
 use Rattle.machine.specs.State.{rowsOf, stateRow}
 use Rattle.samples.specs.Action.{actionOf, mayLimit, hasLimit}
-use Rattle.samples.specs.Dist.{f64At, distType, distAt, validType, validate}
-use Rattle.samples.specs.declared.dist.DistType.the-variants.{Absent, Uniform, Outside}
-use Rattle.tables.specs.Outside.{drawnOutside, drawsOutside}
-use Rattle.tables.specs.Outside.Laws.{Inside, inside, outside-false}
+use Rattle.dists.specs.Dist.{f64At, distType, distAt, validType, validate}
+use Rattle.dists.specs.declared.DistType.the-variants.{Absent, Uniform, Outside}
+use Rattle.outside.specs.Outside.{drawnOutside, drawsOutside}
+use Rattle.outside.specs.Outside.Laws.{Inside, inside, outside-false}
 use Rattle.tables.specs.Valid.{ValidDist, KnownCounter, ValidCounter, ValidState}
 use Rattle.tables.specs.Valid.Laws.{zero-valid}
 use Rattle.tables.specs.Valid.Tests.{or-some}

@@ -7,9 +7,9 @@ use native.Mathlib.Omega.{arith}
 use native.Mathlib.Nat.{sub-zero}
 use denote.Ref.{now}
 use Rattle.machine.specs.State.{rowsOf}
-use Rattle.tables.specs.First.{firstRefusal}
+use Rattle.rows.specs.First.{firstRefusal}
 use Rattle.tables.specs.Machine.{machineRefusal, machinesRefusal}
-use Rattle.tables.specs.First.Laws.{first-on, first-here, first-end}
+use Rattle.rows.specs.First.Laws.{first-on, first-here, first-end}
 use Rattle.tables.proofs.Parts.{one-row, one-length}
 use Rattle.tables.proofs.check_machines.Statement.{statement}
 use Rattle.tables.proofs.check_machines.Tie as tie

@@ -9,7 +9,7 @@ use lib.Dec.{ltb, eqb}
 use lib.ListN.{getD}
 use borrow.Author.Tests.{ltb-false, le-ltb, eqb-true, eqb-false, eq-eqb, ne-eqb, not-false}
 use Rattle.machine.specs.Constants.{flags, timer, timeout, duration, limit, counterA, counterB}
-use Rattle.samples.specs.Dist.{distAt, validate}
+use Rattle.dists.specs.Dist.{distAt, validate}
 use Rattle.samples.specs.Action.{actionOf}
 use Rattle.tables.specs.State.{neededUnknown, commonUnknown, actionUnknown, counterUnknown, codesUnknown, invalid, actionInvalid, counterInvalid, distsInvalid}
 use Rattle.tables.specs.Valid.{KnownAction, KnownCounter, KnownCodes, ValidDist, ValidAction, ValidCounter, ValidDists}

@@ -13,10 +13,11 @@ use lib.Ieee.{binary32, ofBits}
 use borrow.Author.Tests.{leb-true, leb-false, le-leb, lt-leb, ltb-true, ltb-false, le-ltb, eqb-true, eqb-false, eq-eqb, ne-eqb}
 use Rattle.machine.specs.Constants.{stateMax, machineMax, eventNum, machineWords, stateWords, transitionWords, maxPaddingFrac, maxBlockingFrac, firstState, numStates}
 use Rattle.machine.specs.State.{rowsOf, firstOf, countOf, targetAt, probabilityAt}
-use Rattle.samples.specs.Dist.{f64At}
-use Rattle.tables.specs.First.{orElse, firstRefusal}
-use Rattle.tables.specs.First.Laws.{second, former, Met, none, some, met, all-zero}
-use Rattle.tables.specs.State.{probabilityWord, isTarget, improbable, transitionRefusal, seenBefore, sumFrom, sumRefusal, rowRefusal, pairRefusal, codesUnknown, distsInvalid, eventsRefusal, stateRefusal}
+use Rattle.dists.specs.Dist.{f64At}
+use Rattle.rows.specs.First.{orElse, firstRefusal}
+use Rattle.rows.specs.First.Laws.{second, former, Met, none, some, met, all-zero}
+use Rattle.rows.specs.Row.{probabilityWord, isTarget, improbable, transitionRefusal, seenBefore, sumFrom, sumRefusal, rowRefusal, pairRefusal}
+use Rattle.tables.specs.State.{codesUnknown, distsInvalid, eventsRefusal, stateRefusal}
 use Rattle.tables.specs.Machine.{beyondFraction, eachState, statesRefusal, machineRefusal, wholeTables, tablesRefusal}
 use Rattle.tables.specs.Valid.{Fraction, ValidTransition, ValidPair, ValidEvents, ValidState, ValidPlace, stateOf, ValidMachine, Whole, Valid, FirstAt}
 use Rattle.tables.specs.Valid.{TransitionAnswer, transition-passes, nine, ten, eleven, twelve, PairAnswer, pair-passes, eight, first-transition, thirteen}

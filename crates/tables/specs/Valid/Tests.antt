@@ -4,14 +4,14 @@ use native.Mathlib.Nat.{eq-or-lt-of-le}
 use native.Mathlib.Omega.{arith}
 use mathlib.Core.Path.{_≡_, refl, sym, _∙_, subst}
 use mathlib.Core.List.{List}
-use mathlib.Core.Bool.{Bool, true, false, _||_, true≢false, false≢true}
+use mathlib.Core.Bool.{Bool, true, false, _||_, true≢false, false≢true, or-true}
 use mathlib.Core.Logic.{_⊎_, inl, inr, ⊎-elim}
 use lib.Dec.{ltb, eqb}
 use lib.Ieee.{Float}
 use borrow.Author.Tests.{ltb-true, lt-ltb, eqb-true, eqb-false, eq-eqb}
 use Rattle.machine.specs.Constants.{stateEnd, stateSignal}
 use Rattle.machine.specs.State.{targetAt}
-use Rattle.tables.specs.State.{isTarget, improbable, seenIn, seenBefore}
+use Rattle.rows.specs.Row.{isTarget, improbable, seenIn, seenBefore}
 use Rattle.tables.specs.Machine.{beyondFraction}
 use Rattle.tables.specs.Valid.{Fraction, Probability, Target, Seen}
 
@@ -29,14 +29,6 @@ none-or p q = rw (p, q)
 pub or-some : (a b : Bool) → a || b ≡ true → (a ≡ true) ⊎ (b ≡ true)
 or-some true b e = inl refl
 or-some false b e = inr e
-
-pub or-true : (a : Bool) → a || true ≡ true
-or-true true = refl
-or-true false = refl
-
-pub or-false : (a : Bool) → a || false ≡ a
-or-false true = refl
-or-false false = refl
 
 -- ---- floats
 module _ (x : Float) where

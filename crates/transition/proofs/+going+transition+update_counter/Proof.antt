@@ -21,9 +21,9 @@ use Rattle.transition.proofs.+going+transition+update_counter.Lts-trans
 use Rattle.transition.proofs.update_counter.Reads as update-counter
 use Rattle.transition.proofs.update_counter.Kinds as update-counter-kinds
 use Rattle.transition.proofs.+going+transition+update_counter.Lts-update_counter as update-counter-lts
+use Rattle.counters.proofs.update_counters.Reads as update-counters-reads
 use Rattle.machine.proofs.state.state_row.Reads as state-row-reads
 use Rattle.moves.proofs.choice.choose.Reads as choose-reads
-use Rattle.moves.proofs.counter.update_counters.Reads as update-counters-reads
 use Rattle.moves.proofs.step.after_zero.Reads as after-zero-reads
 use Rattle.moves.proofs.step.counted.Reads as counted-reads
 use Rattle.moves.proofs.step.done.Reads as done-reads

@@ -8,10 +8,10 @@ use native.Mathlib.Omega.{arith}
 use native.Mathlib.Nat.{sub-zero}
 use Rattle.machine.specs.Constants.{stateWords}
 use Rattle.machine.specs.State.{stateRow}
-use Rattle.tables.specs.First.{firstRefusal}
+use Rattle.rows.specs.First.{firstRefusal}
 use Rattle.tables.specs.State.{stateRefusal}
 use Rattle.tables.specs.Machine.{eachState}
-use Rattle.tables.specs.First.Laws.{first-on, first-here, first-end}
+use Rattle.rows.specs.First.Laws.{first-on, first-here, first-end}
 use Rattle.tables.proofs.Parts.{one-row, one-length}
 use Rattle.tables.proofs.machine_row.check_each_state.Statement.{statement}
 use Rattle.tables.proofs.machine_row.check_each_state.Tie as tie

@@ -1,6 +1,6 @@
 -- `state::check_event` meets its contract: a count of 0 refuses nothing. Assumes nothing.
 use borrow.Author.Tests.{eq-eqb}
-use Rattle.tables.specs.State.{pairRefusal}
+use Rattle.rows.specs.Row.{pairRefusal}
 use borrow.Author.Needs.{needs}
 use Rattle.tables.proofs.state.check_event.Statement.{statement}
 use Rattle.tables.proofs.state.check_event.Tie as tie

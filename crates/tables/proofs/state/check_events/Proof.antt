@@ -3,9 +3,10 @@ use borrow.Author.Needs.{needs}
 use Prim.Native.Nat.{_≤_, _-_}
 use mathlib.Core.Path.{_≡_, refl, sym, _∙_}
 use Rattle.machine.specs.State.{firstOf, countOf}
-use Rattle.tables.specs.First.{firstRefusal}
-use Rattle.tables.specs.State.{pairRefusal, eventsRefusal}
-use Rattle.tables.specs.First.Laws.{first-on, first-here, first-end}
+use Rattle.rows.specs.First.{firstRefusal}
+use Rattle.rows.specs.Row.{pairRefusal}
+use Rattle.tables.specs.State.{eventsRefusal}
+use Rattle.rows.specs.First.Laws.{first-on, first-here, first-end}
 use Rattle.tables.proofs.state.check_events.Statement.{statement}
 use Rattle.tables.proofs.state.check_events.Tie as tie
 

@@ -1,9 +1,9 @@
 -- `state::check_state` meets its contract: the code's tests in their order are the definition's. Assumes nothing.
 use borrow.Author.Needs.{needs}
 use mathlib.Core.Path.{sym, _∙_}
-use Rattle.tables.specs.First.{orElse}
+use Rattle.rows.specs.First.{orElse}
 use Rattle.tables.specs.State.{stateRefusal}
-use Rattle.tables.specs.First.Laws.{former}
+use Rattle.rows.specs.First.Laws.{former}
 use Rattle.tables.proofs.state.check_state.Statement.{statement}
 use Rattle.tables.proofs.state.check_state.Tie as tie
 

@@ -2,7 +2,7 @@
 use borrow.Author.Needs.{needs}
 use mathlib.Core.Path.{sym, _∙_}
 use borrow.Author.Tests.{ne-eqb}
-use Rattle.samples.specs.Dist.{distAt, validate}
+use Rattle.dists.specs.Dist.{distAt, validate}
 use Rattle.tables.specs.State.{invalid}
 use Rattle.tables.proofs.Dists.{not-uniform, uniform}
 use Rattle.tables.proofs.state.invalid.Statement.{statement}

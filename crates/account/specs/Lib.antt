@@ -1,0 +1,2 @@
+-- What the contracts of `account` say beside the definitions of `steps`.
+pub mod Account

@@ -1,0 +1,2 @@
+-- Laws that the proofs of `counters` cite.
+pub mod Counters

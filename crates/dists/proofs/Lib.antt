@@ -1,0 +1,2 @@
+-- What functions' proofs cite: words from a position on.
+mod Word

@@ -1,0 +1,4 @@
+pub mod Kind
+pub mod Places
+pub mod Filled
+pub mod Written

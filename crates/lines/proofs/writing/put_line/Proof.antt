@@ -1,0 +1,61 @@
+-- `lines::writing::put_line` meets its contract: the line is its kind, what is put behind it, and a line feed.
+use mathlib.Core.Path.{_∙_}
+use native.Mathlib.Omega.{arith}
+use lib.ListN.{length-set}
+use Rattle.machine.specs.Part.{same}
+use Rattle.lines.proofs.Written.{lined}
+use borrow.Author.Needs.{needs}
+use Rattle.lines.proofs.writing.put_line.Statement.{statement}
+use Rattle.lines.proofs.writing.put_line.Tie as tie
+
+put-cell-requires : tie.Need-put-cell-requires
+put-cell-requires c κs = search needs
+
+sub-put-cells : tie.Need-sub-put-cells
+sub-put-cells c = search needs
+
+part-put-cells-start : tie.Need-part-put-cells-start
+part-put-cells-start c = search needs
+
+part-put-cells-end : tie.Need-part-put-cells-end
+part-put-cells-end c = search needs
+
+put-cells-requires : tie.Need-put-cells-requires
+put-cells-requires c κs = search needs
+
+mul-end : tie.Need-mul-end
+mul-end c = search needs
+
+add-end : tie.Need-add-end
+add-end c = search needs
+
+slice-write-line : tie.Need-slice-write-line
+slice-write-line c = search needs
+
+same-length : tie.Need-same-length
+same-length c =
+    let p = c .before .before .before .before .before .before .put-cell in
+    let q = c .before .before .put-cells in
+    simp length-set (same (p .last .0) (q .last .1 .0) 4 (omega (arith, p .kept .0)) (q .kept .1 .0) ∙ p .kept .0)
+
+returns : tie.Need-returns
+returns c =
+    let a = c .before .before .before .before .before .before .before .before .before .before .args in
+    let p = c .before .before .before .before .before .before .put-cell in
+    let q = c .before .before .put-cells in
+    lined (a .kind) (a .row .now) (a .line .now) (q .last .1 .0) (omega arith) (p .kept .0) (p .ensures) (q .ensures)
+
+pub put-line-spec : {M : Type 1} → statement M
+put-line-spec =
+    tie.close
+    (tie.spec
+    put-cell-requires
+    sub-put-cells
+    part-put-cells-start
+    part-put-cells-end
+    put-cells-requires
+    mul-end
+    add-end
+    slice-write-line
+    same-length
+    returns)

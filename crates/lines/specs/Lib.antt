@@ -1,0 +1,3 @@
+-- The lines of a sheet.
+pub mod Lines
+pub mod RoundTrip

@@ -1,2 +1,0 @@
--- Laws that the proofs of `moves` cite.
-pub mod Counters

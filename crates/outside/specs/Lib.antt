@@ -1,0 +1,2 @@
+-- Whether anything in the tables is drawn outside.
+pub mod Outside

@@ -1,0 +1,4 @@
+mod Rows
+mod Bits
+mod Seen
+mod Words
