@@ -10,7 +10,7 @@ cargo build --release --offline --quiet
 cargo test --release --offline --quiet > "$out/tests" 2>&1 || { cat "$out/tests"; exit 1; }
 if cargo clippy --version > /dev/null 2>&1; then
   # our own packages: the Rust sources stay as they are
-  cargo clippy --release --offline --quiet --all-targets --no-deps -p harness -p cover -p random -p sheets -p due -p kept -p words -p standins -p standins-derive -- -D warnings
+  cargo clippy --release --offline --quiet --all-targets --no-deps -p harness -p cover -p random -p sheets -p columns -p due -p kept -p words -p standins -p standins-derive -- -D warnings
 fi
 target/release/record "$out/recorded" "$out/printed"
 cmp ../crates/replay/stdin "$out/recorded"

@@ -10,9 +10,9 @@ use lib.ListN.{length, take, drop, getD}
 use lib.Seq.{take-all, take-append-le, take-suc, take-at, getD-at, getD-take, take-take, take-length}
 use lib.Dec.{eqb, ltb, leb, lit<}
 use borrow.Author.Tests.{eqb-true, eqb-false, leb-true, ltb-true, ltb-false, eq-eqb, ne-eqb, le-leb, lt-ltb, le-ltb}
-use Rattle.text.specs.Columns.{mark, rests, right}
-use Rattle.text.specs.Fits.{readBack, read-rests}
-use Rattle.text.proofs.Cells.{length-rests}
+use Rattle.columns.specs.Digits.{readBack}
+use Rattle.columns.specs.Columns.{right}
+use Rattle.columns.specs.ByColumn.{mark, rests, length-rests, read-rests, right-ends}
 use Rattle.cells.specs.Cells.{wordColumns, isCell, cellOf}
 use Rattle.cells.specs.Laws.{cell-columns, columns-cell, spells}
 use Rattle.cells.specs.Digits.{isDigit, columnOf, lastOf, noCell}
@@ -109,11 +109,14 @@ pub grows : (bytes : List ℕ) (i m : ℕ) → i < length bytes → take i bytes
 unfolding rests
 grows bytes i m l e b = rw (add-one, take-suc bytes i 0 l, e, b)
 
-module _ (bytes : List ℕ) (v : ℕ) (is : bytes ≡ right wordColumns v) where
+module _ (bytes : List ℕ) (v : ℕ) (is-right : bytes ≡ right wordColumns v) where
+  is : bytes ≡ rests 20 (v / 10) ++ ((48 + v % 10) ∷ [])
+  is = is-right ∙ right-ends 20 v
+
   -- column i of a word, with j columns behind it before the last
   at-column : (i j : ℕ) → suc i + j ≡ 20
       → (take i bytes ≡ rests i (cut j (v / 10) / 10)) × (getD bytes i 0 ≡ mark (cut j (v / 10)))
-  unfolding right rests
+  unfolding rests
   at-column i j e =
       let m : ℕ = cut j (v / 10) in
       let R : List ℕ = rests 20 (v / 10) in
@@ -128,7 +131,6 @@ module _ (bytes : List ℕ) (v : ℕ) (is : bytes ≡ right wordColumns v) where
 
   -- the last
   at-last : (take 20 bytes ≡ rests 20 (v / 10)) × (getD bytes 20 0 ≡ 48 + v % 10)
-  unfolding right
   at-last =
       let r = length-rests 20 (v / 10) in (
         ap (take 20) is ∙ take-at (rests 20 (v / 10)) ((48 + v % 10) ∷ []) 20 r,
@@ -238,10 +240,10 @@ module _ (bytes : List ℕ) where
     -- all columns of the word v
     of-word : (v : ℕ) → v < 2 ^ 64 → v / 10 ≡ n → getD bytes 20 0 ≡ 48 + v % 10
         → _≡_ {A = Cell} (record { good = true; word = v }) (cellOf bytes)
-    unfolding cellOf right
+    unfolding cellOf
     of-word v h e b =
         let is : bytes ≡ right wordColumns v =
-        sym (take-length bytes) ∙ ap (λ (k : ℕ). take k bytes) whole ∙ take-suc bytes 20 0 (omega arith) ∙ rw (so-far, ← e, b) in
+        sym (take-length bytes) ∙ ap (λ (k : ℕ). take k bytes) whole ∙ take-suc bytes 20 0 (omega arith) ∙ rw (so-far, ← e, b) (sym (right-ends 20 v)) in
         rw (is, columns-cell v h, spells v h)
 
     abbrev B : ℕ

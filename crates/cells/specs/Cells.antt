@@ -6,8 +6,8 @@ use mathlib.Core.List.{List, [], _∷_, _++_}
 use lib.Dec.{ltb}
 use lib.ListN.{take, drop}
 use Rattle.machine.specs.Same.{same}
-use Rattle.text.specs.Columns.{right}
-use Rattle.text.specs.Fits.{readBack}
+use Rattle.columns.specs.Digits.{readBack}
+use Rattle.columns.specs.Columns.{right, rights}
 use Rattle.cells.specs.declared.Cell.{Cell}
 
 -- ---- pieces of one size
@@ -29,9 +29,8 @@ abbrev pub wordColumns : ℕ
 wordColumns = 21
 
 -- each word in its columns
-unfoldable pub cells : List ℕ → List ℕ
-cells [] = []
-cells (word ∷ row) = right wordColumns word ++ cells row
+abbrev pub cells : List ℕ → List ℕ
+cells row = rights wordColumns row
 
 -- ---- what is read
 

@@ -11,8 +11,9 @@ use lib.ListN.{length, take, drop, length-append, length-drop}
 use lib.Seq.{drop-drop, length-take-le}
 use borrow.Author.Tests.{ltb-true, lt-ltb}
 use Rattle.machine.specs.Same.{same, same-refl, same-true}
-use Rattle.text.specs.Columns.{right}
-use Rattle.text.specs.Fits.{readBack, reads-back}
+use Rattle.columns.specs.Digits.{readBack}
+use Rattle.columns.specs.Columns.{right}
+use Rattle.columns.specs.Fits.{below-fits, reads-back}
 use Rattle.cells.specs.Cells.{wordColumns, each, leading, isCell}
 
 -- ---- each
@@ -88,7 +89,9 @@ cell-columns bytes h =
 
 -- the columns of a u64 are a cell, and spell it
 pub spells : (n : ℕ) → n < 2 ^ 64 → readBack (right wordColumns n) ≡ n
-spells n h = reads-back wordColumns n (omega arith) (omega (arith, lit< {m = 2 ^ 64} {n = 10 ^ 21} tt))
+spells n h =
+    reads-back wordColumns n
+    (below-fits wordColumns n (omega arith) (omega (arith, lit< {m = 2 ^ 64} {n = 10 ^ 21} tt)))
 
 pub columns-cell : (n : ℕ) → n < 2 ^ 64 → isCell (right wordColumns n) ≡ true
 unfolding isCell

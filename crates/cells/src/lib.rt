@@ -1,10 +1,9 @@
 // A word in its 21 columns, and the words of a row, one behind the other.
 ghost use mathlib.Core.Path.{_≡_};
 ghost use mathlib.Core.Bool.{true};
-ghost use mathlib.Core.List.{_++_};
 ghost use Prim.Native.Nat.{_*_, _-_, _≤_, _<_, _^_};
-ghost use lib.ListN.{length, drop};
-ghost use Rattle.cells.specs.Cells.{wordColumns, cells, leading, isCell, cellOf};
+ghost use lib.ListN.{length};
+ghost use Rattle.cells.specs.Cells.{wordColumns, leading, isCell, cellOf};
 ghost use Rattle.cells.specs.Digits.{isDigit, columnOf, lastOf, noCell};
 
 // The columns of a word.
@@ -132,18 +131,4 @@ pub fn good_cells(bytes: &[u8], words: usize) -> usize
         }
     }
     i
-}
-
-// Puts a row's words in their columns at the start of line.
-pub fn put_cells(row: &[u64], line: &mut [u8])
-    requires { ⌜ wordColumns * length (now row) ≤ length (now line) ⌝ }
-    ensures { λ _. ⌜ now (line .exit)
-        ≡ cells (now (row .entry)) ++ drop (wordColumns * length (now (row .entry))) (now (line .entry)) ⌝ }
-{
-    let mut i = 0;
-    while i < row.len() {
-        let at = WORD_COLUMNS * i;
-        text::put_cell(line, at, WORD_COLUMNS, row[i]);
-        i += 1;
-    }
 }

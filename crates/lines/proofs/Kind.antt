@@ -7,17 +7,18 @@ use native.Mathlib.Omega.{arith}
 use lib.Dec.{eqb}
 use lib.ListN.{length, take, drop, getD, length-drop}
 use lib.Seq.{take-all}
-use Rattle.text.specs.Columns.{rests, right}
+use Rattle.columns.specs.Columns.{right}
+use Rattle.columns.specs.ByColumn.{rests, right-ends}
 use Rattle.machine.specs.Same.{same}
 use Rattle.cells.specs.Cells.{wordColumns, leading, isCell}
 use Rattle.lines.specs.Lines.{kindColumns, lineBytes, isLine}
 
 digit-columns : (kind : ℕ) → kind < 10 → right kindColumns kind ≡ 32 ∷ 32 ∷ 32 ∷ (48 + kind) ∷ []
-unfolding right rests
+unfolding rests
 digit-columns kind h =
     let z : kind / 10 ≡ 0 = omega arith in
     let d : kind % 10 ≡ kind = omega arith in
-    rw (z, d)
+    right-ends 3 kind ∙ rw (z, d)
 
 four : (l : List ℕ) → kindColumns ≤ length l → take kindColumns l ≡ getD l 0 0 ∷ getD l 1 0 ∷ getD l 2 0 ∷ getD l 3 0 ∷ []
 four [] h = absurd (omega (arith, h))

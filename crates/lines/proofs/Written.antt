@@ -6,12 +6,12 @@ use native.Mathlib.Omega.{arith}
 use native.Mathlib.Numerals.{add-one}
 use lib.ListN.{length, take, drop, set, length-drop}
 use lib.Seq.{length-take-le}
-use Rattle.machine.specs.Part.{through, from}
-use Rattle.text.specs.Columns.{cellIn}
-use Rattle.text.proofs.Cells.{Upto, start, more, cell, feed, lent}
+use Rattle.machine.specs.Part.{through, from, over-part}
+use Rattle.columns.specs.Columns.{cellIn}
+use Rattle.columns.specs.Fits.{length-rights}
+use Rattle.columns.specs.Line.{Upto, start, more, cell, feed}
 use Rattle.cells.specs.Cells.{each, wordColumns, cells}
 use Rattle.cells.specs.Laws.{each-more}
-use Rattle.cells.specs.RoundTrip.Cells.{length-cells}
 use Rattle.lines.specs.Lines.{kindColumns, lineBytes, lineOf}
 use Rattle.lines.specs.RoundTrip.Lines.{kept}
 
@@ -27,7 +27,7 @@ unfolding lineOf
 lined kind row o {out} ys h l e y =
     let k : ℕ = wordColumns * length row in
     let u = cell kindColumns kind (start o) e in
-    let v = more (cells row) k (length-cells row) u (lent out (cells row) ys kindColumns k (omega arith) y) in
+    let v = more (cells row) k (length-rights wordColumns row) u (over-part out (cells row) ys kindColumns k y) in
     feed (lineBytes (length row)) v (omega arith) (omega arith) .is ∙ simp append-assoc
 
 -- ---- the lines of a table
@@ -45,17 +45,16 @@ module _ (kind words : ℕ) (table o : List ℕ) where
   -- a line more
   pub one-line : (out ys : List ℕ) (row size at i : ℕ) → row ≡ words * i → row + words ≤ length table
       → size ≡ lineBytes words
-      → at ≤ length out
       → Lines i at out
       → (let r = take (row + words - row) (drop row table) in ys ≡ lineOf kind r ++ drop (lineBytes (length r)) (from out at))
       → Lines (i + 1) (at + size) (through out at ys)
-  one-line out ys row size at i e h s l u y =
+  one-line out ys row size at i e h s u y =
       let r : List ℕ = take words (drop row table) in
       let w : row + words - row ≡ words = omega arith in
       let n : length r ≡ words = length-take-le words (drop row table) (omega (arith, length-drop row table)) in
       let q : ys ≡ lineOf kind r ++ drop size (from out at) = rw (w, n, ← s) at y in
       rw (add-one, each-more (lineOf kind) words i table, ← e)
-      (more (lineOf kind r) size (kept kind words .long r n ∙ sym s) u (lent out (lineOf kind r) ys at size l q))
+      (more (lineOf kind r) size (kept kind words .long r n ∙ sym s) u (over-part out (lineOf kind r) ys at size q))
 
   -- all lines
   pub all-lines : (out : List ℕ) (size at i n : ℕ) → i ≡ n → at ≡ size * i → Lines i at out

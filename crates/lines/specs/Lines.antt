@@ -6,7 +6,7 @@ use mathlib.Core.List.{List, [], _∷_, _++_}
 use lib.Dec.{eqb}
 use lib.ListN.{length, take, drop, getD}
 use Rattle.machine.specs.Same.{same}
-use Rattle.text.specs.Columns.{right}
+use Rattle.columns.specs.Columns.{right}
 use Rattle.cells.specs.Cells.{each, leading, wordColumns, cells, isCell, wordIn}
 
 -- ---- what is written

@@ -5,7 +5,7 @@ ghost use mathlib.Core.Path.{_≡_};
 ghost use mathlib.Core.List.{_++_};
 ghost use Prim.Native.Nat.{_*_, _≤_, _<_};
 ghost use lib.ListN.{length, take, drop};
-ghost use Rattle.text.specs.Columns.{right};
+ghost use Rattle.columns.specs.Columns.{right};
 ghost use Rattle.machine.specs.Same.{same};
 ghost use Rattle.lines.specs.Lines.{kindColumns, lineBytes, isLine, wordsOf, lines as linesIn, tableOf};
 

@@ -14,8 +14,8 @@ fn put_line(kind: u64, row: &[u64], line: &mut [u8])
     ensures { λ _. ⌜ now (line .exit)
         ≡ lineOf kind (now (row .entry)) ++ drop (lineBytes (length (now (row .entry)))) (now (line .entry)) ⌝ }
 {
-    text::put_cell(line, 0, KIND_COLUMNS, kind);
-    cells::put_cells(row, &mut line[KIND_COLUMNS..]);
+    columns::put_number(line, 0, KIND_COLUMNS, kind);
+    columns::put_numbers(&mut line[KIND_COLUMNS..], WORD_COLUMNS, row);
     let end = KIND_COLUMNS + WORD_COLUMNS * row.len();
     line[end] = b'\n';
 }

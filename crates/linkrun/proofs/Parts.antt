@@ -7,7 +7,7 @@ use lib.Dec.{eqb}
 use borrow.Author.Tests.{eq-eqb, ne-eqb}
 use native.Mathlib.Omega.{arith}
 use native.Mathlib.Numerals.{add-one}
-use Rattle.text.specs.Columns.{callText, rowLines}
+use Rattle.text.specs.Printed.{callText, rowLines}
 use Rattle.stream.specs.Stream.{callAt, callCount, callsAt, inputRefusal, inputWords}
 use lib.ListN.{length, take, drop}
 use lib.Seq.{take-at, drop-at, drop-drop}

@@ -7,7 +7,7 @@ use lib.Ieee.{Float}
 use lib.ListN.{length, take, drop, replicate, length-drop}
 use lib.Seq.{take-all}
 use Rattle.machine.specs.Constants.{machineMax, rowWords}
-use Rattle.text.specs.Columns.{callText}
+use Rattle.text.specs.Printed.{callText}
 use Rattle.text.specs.Words.{chances, values}
 use Rattle.text.proofs.Lines.{length-call-text}
 use Rattle.stream.specs.Stream.{callOf, machineTable, stateTable, transitionTable, chanceWords, valueWords, eventsOf}

@@ -6,7 +6,7 @@ use lib.Dec.{eqb}
 use lib.Ieee.{Float}
 use lib.ListN.{length, drop, getD, replicate}
 use Rattle.machine.specs.Constants.{machineMax, rowWords}
-use Rattle.text.specs.Columns.{callText}
+use Rattle.text.specs.Printed.{callText}
 use Rattle.text.specs.Words.{chances, values, valueOf}
 use Rattle.stream.specs.Stream.{paddingFrac, blockingFrac, openingTime, callCount, callsAt, machineTable, stateTable, transitionTable, chanceWords, valueWords, eventsOf, nextCall, inputRefusal, inputWords}
 use Rattle.machine.specs.Source.{tapes}

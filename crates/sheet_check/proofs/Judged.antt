@@ -9,8 +9,8 @@ use lib.ListN.{length, take, drop, set, length-append}
 use borrow.Author.Tests.{eqb-true}
 use Rattle.machine.specs.Constants.{machineWords, stateWords, transitionWords}
 use Rattle.tables.specs.Machine.{tablesRefusal}
-use Rattle.text.specs.Columns.{cellIn}
-use Rattle.text.proofs.Cells.{start, cell, feed}
+use Rattle.columns.specs.Columns.{cellIn}
+use Rattle.columns.specs.Line.{start, cell, feed}
 use Rattle.sheet.specs.Reader.{readRefusal, Read, sheetRead, Reads}
 use Rattle.sheet.specs.Writer.{over}
 use Rattle.sheet.specs.RoundTrip.Calls.{reads}

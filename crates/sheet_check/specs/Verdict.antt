@@ -6,7 +6,7 @@ use lib.Dec.{ltb}
 use lib.ListN.{length, take, replicate}
 use Rattle.machine.specs.Constants.{machineWords, stateWords, transitionWords}
 use Rattle.tables.specs.Machine.{tablesRefusal}
-use Rattle.text.specs.Columns.{right}
+use Rattle.columns.specs.Columns.{right}
 use Rattle.lines.specs.Lines.{lineBytes}
 use Rattle.sheet.specs.Reader.{noRows, sheetRead}
 use Rattle.sheet.specs.declared.SheetRows.{SheetRows}

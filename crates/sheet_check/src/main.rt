@@ -26,11 +26,11 @@ fn verdict_line(line: &mut [u8], r: SheetRows, tables: u64)
     requires { ⌜ lineLength ≤ length (now line) ⌝ }
     ensures { λ _. ⌜ now (line .exit) ≡ verdictLine r tables ++ drop lineLength (now (line .entry)) ⌝ }
 {
-    text::put_cell(line, 0, 4, r.refusal);
-    text::put_cell(line, 4, 8, r.machines);
-    text::put_cell(line, 12, 8, r.states);
-    text::put_cell(line, 20, 8, r.transitions);
-    text::put_cell(line, 28, 4, tables);
+    columns::put_number(line, 0, 4, r.refusal);
+    columns::put_number(line, 4, 8, r.machines);
+    columns::put_number(line, 12, 8, r.states);
+    columns::put_number(line, 20, 8, r.transitions);
+    columns::put_number(line, 28, 4, tables);
     line[32] = b'\n';
 }
 

@@ -7,8 +7,18 @@ use native.Mathlib.Omega.{arith}
 use lib.ListN.{length, drop, set, getD, length-append}
 use lib.Seq.{drop-at, drop-drop}
 use Rattle.machine.specs.Constants.{rowWords}
-use Rattle.text.specs.Columns.{cellIn, callLine, rowLine, rowIn, rowLines, callText}
-use Rattle.text.proofs.Cells.{Upto, start, more, cell, cells, feed, length-right}
+use Rattle.machine.specs.Part.{through, from, from-is, over-part}
+use Rattle.columns.specs.Columns.{cellIn}
+use Rattle.columns.specs.Fits.{length-right}
+use Rattle.columns.specs.Line.{Upto, start, more, cell, feed}
+use Rattle.text.specs.Printed.{callLine, rowLine, rowIn, rowLines, callText}
+
+-- the line that is put at the front of the part from `at` on is put in the text
+pub rowed : (out rows ys : List ℕ) (at i : ℕ)
+    → ys ≡ rowLine (from rows (rowWords * i)) ++ drop 41 (from out at) → through out at ys ≡ rowIn at rows i out
+unfolding rowIn
+rowed out rows ys at i y =
+    over-part out (rowLine (drop (rowWords * i) rows)) ys at 41 (rw (from-is rows (rowWords * i)) at y)
 
 pub call-lined : (o : List ℕ) {x₁ x₂ x₃ : List ℕ} (a b c : ℕ) → 15 ≤ length o
     → x₁ ≡ cellIn 0 6 a o
@@ -18,14 +28,17 @@ pub call-lined : (o : List ℕ) {x₁ x₂ x₃ : List ℕ} (a b c : ℕ) → 15
 unfolding callLine
 call-lined o a b c h e₁ e₂ e₃ = feed 15 (cell 4 c (cell 4 b (cell 6 a (start o) e₁) e₂) e₃) refl (omega arith) .is
 
-pub row-lined : (o : List ℕ) {x₁ x₂ x₃ : List ℕ} (row : List ℕ) → 41 ≤ length o
-    → x₁ ≡ cellIn 4 4 (getD row 1 0) (cellIn 0 4 (getD row 0 0) o)
-    → x₂ ≡ cellIn 12 4 (getD row 3 0) (cellIn 8 4 (getD row 2 0) x₁)
-    → x₃ ≡ cellIn 28 12 (getD row 5 0) (cellIn 16 12 (getD row 4 0) x₂)
-    → set x₃ 40 10 ≡ rowLine row ++ drop 41 o
+pub row-lined : (o : List ℕ) {x₁ x₂ x₃ x₄ x₅ x₆ : List ℕ} (row : List ℕ) → 41 ≤ length o
+    → x₁ ≡ cellIn 0 4 (getD row 0 0) o
+    → x₂ ≡ cellIn 4 4 (getD row 1 0) x₁
+    → x₃ ≡ cellIn 8 4 (getD row 2 0) x₂
+    → x₄ ≡ cellIn 12 4 (getD row 3 0) x₃
+    → x₅ ≡ cellIn 16 12 (getD row 4 0) x₄
+    → x₆ ≡ cellIn 28 12 (getD row 5 0) x₅
+    → set x₆ 40 10 ≡ rowLine row ++ drop 41 o
 unfolding rowLine
-row-lined o row h e₁ e₂ e₃ =
-    feed 41 (cells 12 _ _ (cells 4 _ _ (cells 4 _ _ (start o) e₁) e₂) e₃) refl (omega arith) .is
+row-lined o row h e₁ e₂ e₃ e₄ e₅ e₆ =
+    feed 41 (cell 12 _ (cell 12 _ (cell 4 _ (cell 4 _ (cell 4 _ (cell 4 _ (start o) e₁) e₂) e₃) e₄) e₅) e₆) refl (omega arith) .is
 
 length-call-line : (a b c : ℕ) → length (callLine a b c) ≡ 15
 unfolding callLine

@@ -3,56 +3,10 @@ use machine::constants::ROW_WORDS;
 ghost use mathlib.Core.Path.{_≡_};
 ghost use mathlib.Core.List.{_++_};
 ghost use Prim.Native.Nat.{_+_, _*_, _≤_, _<_};
-ghost use lib.ListN.{length, getD, drop};
+ghost use lib.ListN.{length, drop};
 ghost use Rattle.machine.specs.Constants.{rowWords};
-ghost use Rattle.text.specs.Columns.{column, callLine, cellIn, rowLine, rowIn, callText, mark as markOf};
+ghost use Rattle.text.specs.Printed.{callLine, rowLine, rowIn, callText};
 ghost use Rattle.text.specs.Words.{pairAt, wordAt, wordsTo, chances, values};
-
-// The byte in a column left of the last: a digit, or a space where no digit is left.
-fn mark(rest: u64) -> u8
-    ensures { λ r. ⌜ r ≡ markOf rest ⌝ }
-{
-    if rest == 0 {
-        b' '
-    } else {
-        48 + (rest % 10) as u8
-    }
-}
-
-// Puts n at the right end of the first width bytes of out, with spaces in front. A number of more
-// than width digits gets its last ones.
-fn put_number(out: &mut [u8], width: usize, n: u64)
-    requires { ⌜ (0 < width) × (width ≤ length (now out)) ⌝ }
-    ensures { λ _. ⌜ now (out .exit) ≡ column width n (now (out .entry)) ⌝ }
-{
-    let mut i = width - 1;
-    out[i] = 48 + (n % 10) as u8;
-    let mut rest = n / 10;
-    while 0 < i {
-        i -= 1;
-        out[i] = mark(rest);
-        rest /= 10;
-    }
-}
-
-// The same in the columns from `at` on.
-pub fn put_cell(line: &mut [u8], at: usize, width: usize, n: u64)
-    requires { ⌜ (0 < width) × (at + width ≤ length (now line)) ⌝ }
-    ensures { λ _. ⌜ now (line .exit) ≡ cellIn at width n (now (line .entry)) ⌝ }
-{
-    put_number(&mut line[at..], width, n);
-}
-
-// Words k and k + 1 of a row, in neighbouring cells of one width.
-fn put_two(line: &mut [u8], at: usize, width: usize, row: &[u64], k: usize)
-    requires { ⌜ (0 < width) × (at + (width + width) ≤ length (now line)) × (k + 2 ≤ length (now row)) ⌝ }
-    ensures { λ _. ⌜ now (line .exit)
-        ≡ cellIn (at + width) width (getD (now (row .entry)) (k + 1) 0)
-        (cellIn at width (getD (now (row .entry)) k 0) (now (line .entry))) ⌝ }
-{
-    put_cell(line, at, width, row[k]);
-    put_cell(line, at + width, width, row[k + 1]);
-}
 
 // A call's line: call, refusal and actions in 6, 4 and 4 columns, and a line feed.
 fn call_line(line: &mut [u8], call: u64, refusal: u64, actions: u64)
@@ -60,9 +14,9 @@ fn call_line(line: &mut [u8], call: u64, refusal: u64, actions: u64)
     ensures { λ _. ⌜ now (line .exit)
         ≡ callLine call refusal actions ++ drop 15 (now (line .entry)) ⌝ }
 {
-    put_cell(line, 0, 6, call);
-    put_cell(line, 6, 4, refusal);
-    put_cell(line, 10, 4, actions);
+    columns::put_number(line, 0, 6, call);
+    columns::put_number(line, 6, 4, refusal);
+    columns::put_number(line, 10, 4, actions);
     line[14] = b'\n';
 }
 
@@ -72,9 +26,12 @@ fn row_line(line: &mut [u8], row: &[u64])
     ensures { λ _. ⌜ now (line .exit)
         ≡ rowLine (now (row .entry)) ++ drop 41 (now (line .entry)) ⌝ }
 {
-    put_two(line, 0, 4, row, 0);
-    put_two(line, 8, 4, row, 2);
-    put_two(line, 16, 12, row, 4);
+    columns::put_number(line, 0, 4, row[0]);
+    columns::put_number(line, 4, 4, row[1]);
+    columns::put_number(line, 8, 4, row[2]);
+    columns::put_number(line, 12, 4, row[3]);
+    columns::put_number(line, 16, 12, row[4]);
+    columns::put_number(line, 28, 12, row[5]);
     line[40] = b'\n';
 }
 

@@ -5,7 +5,7 @@ use mathlib.Core.Path.{_≡_, sym, _∙_}
 use native.Mathlib.Omega.{arith}
 use native.Mathlib.Nat.{pow-le-pow-right, pow-suc}
 use lib.ListN.{take}
-use Rattle.text.specs.Columns.{rests}
+use Rattle.columns.specs.ByColumn.{rests}
 use Rattle.cells.proofs.Columns.{first-digit, first-space, stops, on-column, below, below-next, grows, ends}
 use Rattle.cells.proofs.cell_of.Statement.{statement}
 use Rattle.cells.proofs.cell_of.Tie as tie

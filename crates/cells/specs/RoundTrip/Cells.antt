@@ -5,9 +5,9 @@ use mathlib.Core.Bool.{true}
 use mathlib.Core.List.{List, [], _∷_, _++_, append-nil}
 use native.Mathlib.Omega.{arith}
 use native.Mathlib.Nat.{add-zero}
-use lib.ListN.{length, take, getD, length-append}
-use Rattle.text.specs.Columns.{right}
-use Rattle.text.proofs.Cells.{length-right}
+use lib.ListN.{length, take, getD}
+use Rattle.columns.specs.Columns.{right, rights}
+use Rattle.columns.specs.Fits.{length-right, length-rights}
 use Rattle.cells.specs.Cells.{each, wordColumns, cells, leading, isCell, cellOf, wordIn}
 use Rattle.cells.specs.Laws.{cell-columns, columns-cell, spells}
 use Rattle.cells.specs.RoundTrip.U64.{Words, one-word}
@@ -29,14 +29,8 @@ cell-is-u64 bytes h = rw h (cell-columns bytes h .1)
 
 -- ---- the cells of a row are pieces of one word
 
-pub length-cells : (row : List ℕ) → length (cells row) ≡ wordColumns * length row
-unfolding cells
-length-cells [] = refl
-length-cells (word ∷ row) =
-    length-append (right wordColumns word) (cells row) ∙ omega (arith, length-right wordColumns word, length-cells row)
-
 one-cell : (word : ℕ) → cells (word ∷ []) ≡ right wordColumns word
-unfolding cells
+unfolding rights
 one-cell word = append-nil (right wordColumns word)
 
 row-of-one : (row : List ℕ) → length row ≡ 1 → row ≡ getD row 0 0 ∷ []
@@ -46,7 +40,7 @@ row-of-one (word ∷ (next ∷ row)) l = absurd (omega (arith, l))
 
 kept : Kept cells wordIn isCell 1 wordColumns
 kept = record {
-  long = λ row l. length-cells row ∙ omega (arith, l);
+  long = λ row l. length-rights wordColumns row ∙ omega (arith, l);
   passes = λ row l h. rw (row-of-one row l, one-cell (getD row 0 0)) (columns-cell (getD row 0 0) (h 0));
   back = λ row l h. rw (row-of-one row l, one-cell (getD row 0 0), written-reads (getD row 0 0) (h 0));
 }
@@ -62,7 +56,7 @@ exact bytes h l =
     }
 
 each-cell : (row : List ℕ) → each cells 1 (length row) row ≡ cells row
-unfolding each cells
+unfolding each rights
 each-cell [] = refl
 each-cell (word ∷ row) = rw (append-nil (right wordColumns word), each-cell row)
 

@@ -8,12 +8,12 @@ use lib.Dec.{eqb, lit<}
 use lib.ListN.{length, take, drop, getD, length-append, take-append-drop, drop-of-length-le}
 use lib.Seq.{take-at, drop-at, getD-at, drop-drop, drop-cons}
 use borrow.Author.Tests.{eqb-true, eq-eqb}
-use Rattle.text.specs.Columns.{right}
-use Rattle.text.proofs.Cells.{length-right}
+use Rattle.columns.specs.Columns.{right}
+use Rattle.columns.specs.Fits.{length-right, length-rights}
 use Rattle.machine.specs.Same.{same, same-refl, same-true}
 use Rattle.cells.specs.Cells.{wordColumns, cells, leading, isCell}
 use Rattle.cells.specs.RoundTrip.U64.{Words}
-use Rattle.cells.specs.RoundTrip.Cells.{length-cells, row-found, row-read, row-again}
+use Rattle.cells.specs.RoundTrip.Cells.{row-found, row-read, row-again}
 use Rattle.cells.specs.RoundTrip.Pieces.{Kept, Exact}
 use Rattle.lines.specs.Lines.{kindColumns, lineBytes, lineOf, isLine, wordsOf}
 
@@ -33,7 +33,7 @@ length-line : (kind : ℕ) (row : List ℕ) → length (lineOf kind row) ≡ lin
 unfolding lineOf
 length-line kind row =
     length-append (right kindColumns kind) (behindKind row)
-    ∙ omega (arith, length-right kindColumns kind, length-append (cells row) (10 ∷ []), length-cells row)
+    ∙ omega (arith, length-right kindColumns kind, length-append (cells row) (10 ∷ []), length-rights wordColumns row)
 
 drop-kind : (kind : ℕ) (row : List ℕ) → drop kindColumns (lineOf kind row) ≡ behindKind row
 unfolding lineOf
@@ -45,7 +45,7 @@ written-is-line kind row h =
     let front = right kindColumns kind in
     let long : length front ≡ kindColumns = length-right kindColumns kind in
     let n : length (front ++ cells row) ≡ kindColumns + wordColumns * length row =
-    length-append front (cells row) ∙ omega (arith, long, length-cells row) in
+    length-append front (cells row) ∙ omega (arith, long, length-rights wordColumns row) in
     let feed : getD (front ++ behindKind row) (kindColumns + wordColumns * length row) 0 ≡ 10 =
     rw (← (append-assoc front (cells row) (10 ∷ [])))
     (getD-at (front ++ cells row) 10 [] 0 (kindColumns + wordColumns * length row) n) in

@@ -8,8 +8,8 @@ use native.Mathlib.Omega.{arith}
 use native.Mathlib.Nat.{div-add-mod, le-div-iff-mul-le, div-eq-of-eq-mul-right}
 use lib.ListN.{length, take, drop, length-append, take-append-drop}
 use lib.Seq.{take-at, drop-at, take-take}
-use Rattle.text.specs.Columns.{right}
-use Rattle.text.proofs.Cells.{length-right}
+use Rattle.columns.specs.Columns.{right}
+use Rattle.columns.specs.Fits.{length-right}
 use Rattle.machine.specs.Same.{same}
 use Rattle.cells.specs.Cells.{each, cells, leading}
 use Rattle.cells.specs.Laws.{length-each}

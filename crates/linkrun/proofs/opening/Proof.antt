@@ -4,7 +4,7 @@ use Prim.Native.Nat.{ℕ}
 use mathlib.Core.Path.{_≡_, sym, ap, _∙_}
 use mathlib.Core.List.{[]}
 use lib.ListN.{length, drop, length-take}
-use Rattle.text.specs.Columns.{callText}
+use Rattle.text.specs.Printed.{callText}
 use Rattle.text.proofs.Lines.{length-call-text}
 use Rattle.run.specs.Run.{inputText}
 use Rattle.linkrun.proofs.Parts.{part, behind, no-rows, opens, opens-refused, opens-accepted, at-first}

@@ -4,7 +4,7 @@ use native.Mathlib.Omega.{arith}
 use mathlib.Core.Path.{_≡_, sym, ap, _∙_}
 use mathlib.Core.List.{[]}
 use lib.ListN.{length, drop, length-take}
-use Rattle.text.specs.Columns.{callText}
+use Rattle.text.specs.Printed.{callText}
 use Rattle.text.proofs.Lines.{length-call-text}
 use Rattle.stream.specs.Stream.{checkOf}
 use Rattle.stream.proofs.Input.{taken-up}

@@ -8,7 +8,8 @@ use lib.Dec.{lit<}
 use lib.ListN.{length}
 use borrow.Author.Tests.{eqb-true}
 use Rattle.machine.specs.Constants.{machineWords, stateWords, transitionWords}
-use Rattle.text.specs.Columns.{right, rests}
+use Rattle.columns.specs.Digits.{digits, digitsBy}
+use Rattle.columns.specs.Columns.{right, fits}
 use Rattle.machine.specs.Same.{same}
 use Rattle.cells.specs.RoundTrip.U64.{Words}
 use Rattle.lines.specs.Lines.{kindColumns, linesOf, tableOf}
@@ -29,27 +30,27 @@ pub record Sound (m s t : List ℕ) : Type 0 where
 
 -- a line of a later kind does not begin as one of an earlier kind, nor does the end of the text as any
 state-no-machine : same (right kindColumns stateKind) (right kindColumns machineKind) ≡ false
-unfolding same right rests
+unfolding same right fits digits digitsBy
 state-no-machine = refl
 
 transition-no-machine : same (right kindColumns transitionKind) (right kindColumns machineKind) ≡ false
-unfolding same right rests
+unfolding same right fits digits digitsBy
 transition-no-machine = refl
 
 transition-no-state : same (right kindColumns transitionKind) (right kindColumns stateKind) ≡ false
-unfolding same right rests
+unfolding same right fits digits digitsBy
 transition-no-state = refl
 
 end-no-machine : Unlike machineKind []
-unfolding same right rests
+unfolding same right fits digits digitsBy
 end-no-machine = refl
 
 end-no-state : Unlike stateKind []
-unfolding same right rests
+unfolding same right fits digits digitsBy
 end-no-state = refl
 
 end-no-transition : Unlike transitionKind []
-unfolding same right rests
+unfolding same right fits digits digitsBy
 end-no-transition = refl
 
 -- the lines from the transitions on, and from the states on

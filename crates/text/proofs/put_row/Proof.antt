@@ -1,6 +1,5 @@
 -- `text::put_row` meets its contract: the line that is put through a part of the text is put in the text.
-use native.Mathlib.Omega.{arith}
-use Rattle.text.proofs.Cells.{rowed}
+use Rattle.text.proofs.Lines.{rowed}
 use borrow.Author.Needs.{needs}
 use Rattle.text.proofs.put_row.Statement.{statement}
 use Rattle.text.proofs.put_row.Tie as tie
@@ -39,7 +38,7 @@ returns : tie.Need-returns
 returns c =
     let a = c .before .before .before .before .before .before .before .args in
     let r = c .before .before .row-line in
-    rowed (a .out .now) (a .rows .now) (r .last .0) (a .at) (a .i) (omega arith) (r .ensures)
+    rowed (a .out .now) (a .rows .now) (r .last .0) (a .at) (a .i) (r .ensures)
 
 pub put-row-spec : {M : Type 1} → statement M
 put-row-spec =

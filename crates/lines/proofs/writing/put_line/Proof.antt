@@ -8,20 +8,20 @@ use borrow.Author.Needs.{needs}
 use Rattle.lines.proofs.writing.put_line.Statement.{statement}
 use Rattle.lines.proofs.writing.put_line.Tie as tie
 
-put-cell-requires : tie.Need-put-cell-requires
-put-cell-requires c κs = search needs
+put-number-requires : tie.Need-put-number-requires
+put-number-requires c κs = search needs
 
-sub-put-cells : tie.Need-sub-put-cells
-sub-put-cells c = search needs
+sub-put-numbers : tie.Need-sub-put-numbers
+sub-put-numbers c = search needs
 
-part-put-cells-start : tie.Need-part-put-cells-start
-part-put-cells-start c = search needs
+part-put-numbers-start : tie.Need-part-put-numbers-start
+part-put-numbers-start c = search needs
 
-part-put-cells-end : tie.Need-part-put-cells-end
-part-put-cells-end c = search needs
+part-put-numbers-end : tie.Need-part-put-numbers-end
+part-put-numbers-end c = search needs
 
-put-cells-requires : tie.Need-put-cells-requires
-put-cells-requires c κs = search needs
+put-numbers-requires : tie.Need-put-numbers-requires
+put-numbers-requires c κs = search needs
 
 mul-end : tie.Need-mul-end
 mul-end c = search needs
@@ -34,26 +34,26 @@ slice-write-line c = search needs
 
 same-length : tie.Need-same-length
 same-length c =
-    let p = c .before .before .before .before .before .before .put-cell in
-    let q = c .before .before .put-cells in
-    simp length-set (same (p .last .0) (q .last .1 .0) 4 (omega (arith, p .kept .0)) (q .kept .1 .0) ∙ p .kept .0)
+    let p = c .before .before .before .before .before .before .put-number in
+    let q = c .before .before .put-numbers in
+    simp length-set (same (p .last .0) (q .last .0) 4 (omega (arith, p .kept .0)) (q .kept .0) ∙ p .kept .0)
 
 returns : tie.Need-returns
 returns c =
     let a = c .before .before .before .before .before .before .before .before .before .before .args in
-    let p = c .before .before .before .before .before .before .put-cell in
-    let q = c .before .before .put-cells in
-    lined (a .kind) (a .row .now) (a .line .now) (q .last .1 .0) (omega arith) (p .kept .0) (p .ensures) (q .ensures)
+    let p = c .before .before .before .before .before .before .put-number in
+    let q = c .before .before .put-numbers in
+    lined (a .kind) (a .row .now) (a .line .now) (q .last .0) (omega arith) (p .kept .0) (p .ensures) (q .ensures)
 
 pub put-line-spec : {M : Type 1} → statement M
 put-line-spec =
     tie.close
     (tie.spec
-    put-cell-requires
-    sub-put-cells
-    part-put-cells-start
-    part-put-cells-end
-    put-cells-requires
+    put-number-requires
+    sub-put-numbers
+    part-put-numbers-start
+    part-put-numbers-end
+    put-numbers-requires
     mul-end
     add-end
     slice-write-line

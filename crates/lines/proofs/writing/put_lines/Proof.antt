@@ -89,7 +89,6 @@ loop-again c =
           (l .inv .1)
           (omega arith)
           (omega arith)
-          (omega arith)
           (l .inv .4)
           (p .ensures),
     )

@@ -1,0 +1,2 @@
+-- Numbers put in columns by a call.
+pub mod Put
