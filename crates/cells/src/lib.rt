@@ -9,14 +9,14 @@ pub const WORD_COLUMNS: usize = 21;
 // ---- a word
 
 // Whether bytes are a word's columns, and the word; 0 where they are not.
-#[derive(Drop)]
+#[derive(Clone, Copy)]
 pub struct Cell {
     pub good: bool,
     pub word: u64,
 }
 
 // The number with one column more, left of the last, or that no number has this byte there.
-#[derive(Drop)]
+#[derive(Clone, Copy)]
 enum Column {
     On(u64),
     Off,

@@ -51,7 +51,7 @@ pub const BROKEN: u64 = 1;
 pub const READ: u64 = 2;
 
 // Which of these, and how many words.
-#[derive(Drop)]
+#[derive(Clone, Copy)]
 pub struct Input {
     pub found: u64,
     pub count: usize,

@@ -11,14 +11,14 @@ use machine::state::word;
 
 // The kind of a distribution. Document 01's "drawn outside" stands for the ten kinds other than
 // Uniform.
-#[derive(Drop)]
+#[derive(Clone, Copy)]
 pub enum DistType {
     Absent,
     Uniform(f64, f64),
     Outside,
 }
 
-#[derive(Drop)]
+#[derive(Clone, Copy)]
 pub struct Dist {
     pub dist: DistType,
     pub start: f64,
@@ -26,27 +26,27 @@ pub struct Dist {
 }
 
 // A value, and where the tapes go on.
-#[derive(Drop)]
+#[derive(Clone, Copy)]
 pub struct Value {
     pub value: f64,
     pub at: Place,
 }
 
 // A value that was drawn, or the refusal: 16 past the tape's end, 17 for a draw that is not fit.
-#[derive(Drop)]
+#[derive(Clone, Copy)]
 pub enum ValueDrawn {
     Refused(u64),
     GotValue(Value),
 }
 
 // A whole number, and where the tapes go on.
-#[derive(Drop)]
+#[derive(Clone, Copy)]
 pub struct Whole {
     pub value: u64,
     pub at: Place,
 }
 
-#[derive(Drop)]
+#[derive(Clone, Copy)]
 pub enum WholeDrawn {
     Refused(u64),
     GotWhole(Whole),

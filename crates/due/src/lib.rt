@@ -10,7 +10,7 @@ mod sorting; // places of rows, sorted in the buffer
 
 // The refusal or 0, and how many rows were written.
 #[repr(C)]
-#[derive(Drop)]
+#[derive(Clone, Copy)]
 pub struct Due {
     pub refusal: u64,
     pub rows: u64,

@@ -4,7 +4,7 @@ ghost use Rattle.run.specs.Run.{input_text};
 
 // How far into the text the parts reach that were handed over, and whether all of them could be
 // written. The fields are this module's, so nobody gets further but by handing the next part over.
-#[derive(Drop)]
+#[derive(Clone, Copy)]
 pub struct Handed {
     from: usize,
     whole: bool,

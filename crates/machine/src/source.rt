@@ -7,14 +7,14 @@ ghost use Rattle.machine.specs.Words.{chance_of, word_chance, lent_chance};
 use super::constants::{NO_DRAW, UNFIT_DRAW};
 
 // The next chance and the next value; the next word stands in `value_at`.
-#[derive(Drop)]
+#[derive(Clone, Copy)]
 pub struct Place {
     pub chance_at: usize,
     pub value_at: usize,
 }
 
 // A chance that was drawn, and where the tapes go on; or the refusal.
-#[derive(Drop)]
+#[derive(Clone, Copy)]
 pub enum ChanceDrawn {
     Refused(u64),
     GotChance(f32, Place),

@@ -7,7 +7,7 @@ ghost use Rattle.machine.specs.State.{sample_state};
 use super::constants::{EVENTS, STATE_WORDS, TRANSITION_WORDS};
 
 // The next state of a transition, a pseudo-state among them, or none.
-#[derive(Drop)]
+#[derive(Clone, Copy)]
 pub enum Next {
     State(u64),
     Nothing,

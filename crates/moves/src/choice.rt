@@ -8,7 +8,7 @@ use machine::source::{ChanceDrawn, Place, chance_draw};
 use machine::state::{Next, count_of, first_of, sample_state, state_row};
 
 // What was chosen, and where the tapes go on; or the refusal.
-#[derive(Drop)]
+#[derive(Clone, Copy)]
 pub enum Choice {
     Refused(u64),
     Chosen(Next, Place),

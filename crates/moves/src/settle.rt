@@ -20,7 +20,7 @@ use steps::{
 };
 
 // What a move to a state may change of its machine, and of what the call shares.
-#[derive(Drop)]
+#[derive(Clone, Copy)]
 pub struct Moved {
     pub current_state: u64,
     pub state_limit: u64,
@@ -31,7 +31,7 @@ pub struct Moved {
 
 // The machine's move, with the pending action kept or another one set; or that the long way has to
 // be taken.
-#[derive(Drop)]
+#[derive(Clone, Copy)]
 pub enum Short {
     Elsewhere,
     Kept(Moved),

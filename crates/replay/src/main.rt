@@ -19,14 +19,14 @@ use tally::Tally;
 const CASES: u64 = 1000000;
 
 // The tally after a case, and whether the corpus could be read so far.
-#[derive(Drop)]
+#[derive(Clone, Copy)]
 struct Turn {
     tally: Tally,
     more: bool,
 }
 
 // Between two calls of a case: where the tapes go on, and the same.
-#[derive(Drop)]
+#[derive(Clone, Copy)]
 struct Between {
     framework: Framework,
     chance_at: u64,

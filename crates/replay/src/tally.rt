@@ -2,7 +2,7 @@
 use corpus::ANSWER;
 
 // Cases and calls of the corpus, calls of our own on damaged input, and how many of both agreed.
-#[derive(Drop)]
+#[derive(Clone, Copy)]
 pub struct Tally {
     pub cases: u64,
     pub calls: u64,

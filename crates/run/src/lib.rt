@@ -11,7 +11,7 @@ use steps::Framework;
 const OUTPUT_WORDS: usize = MACHINE_MAX * ROW_WORDS;
 
 // Where a run stands: the framework, the place of the next call, and the draws taken of each tape.
-#[derive(Drop)]
+#[derive(Clone, Copy)]
 pub struct Standing {
     pub framework: Framework,
     pub next: usize,
@@ -20,14 +20,14 @@ pub struct Standing {
 }
 
 // A call that ran: where the run stands after it, and how many bytes it prints.
-#[derive(Drop)]
+#[derive(Clone, Copy)]
 pub struct Rendered {
     pub stands: Standing,
     pub bytes: usize,
 }
 
 // The opening: its refusal or 0, and where the run stands after it.
-#[derive(Drop)]
+#[derive(Clone, Copy)]
 pub struct Started {
     pub refusal: u64,
     pub stands: Standing,

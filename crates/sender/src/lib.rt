@@ -17,7 +17,7 @@ use steps::{Framework, Opened, OpenedWords};
 // A batch's answer without its framework: the refusal or 0, how many rows it wrote, and how many
 // draws of each tape it took.
 #[repr(C)]
-#[derive(Drop)]
+#[derive(Clone, Copy)]
 pub struct Reply {
     pub refusal: u64,
     pub actions: u64,
@@ -27,7 +27,7 @@ pub struct Reply {
 
 // The same of a batch from raw words: how many words it took.
 #[repr(C)]
-#[derive(Drop)]
+#[derive(Clone, Copy)]
 pub struct ReplyWords {
     pub refusal: u64,
     pub actions: u64,

@@ -15,7 +15,7 @@ mod writing; // the tables to their sheet
 
 // What the reader answers: the refusal or 0, and how many rows it read into each table.
 #[repr(C)]
-#[derive(Drop)]
+#[derive(Clone, Copy)]
 pub struct SheetRows {
     pub refusal: u64,
     pub machines: u64,
@@ -25,7 +25,7 @@ pub struct SheetRows {
 
 // What the writer answers: the refusal or 0, and how many bytes it wrote.
 #[repr(C)]
-#[derive(Drop)]
+#[derive(Clone, Copy)]
 pub struct SheetBytes {
     pub refusal: u64,
     pub bytes: u64,

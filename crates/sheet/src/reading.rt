@@ -12,7 +12,7 @@ use lines::reading::{lines, put_rows};
 use machine::constants::{MACHINE_WORDS, STATE_WORDS, TRANSITION_WORDS};
 
 // The lines of each kind at the front of a sheet, in their order, and whether they are all of it.
-#[derive(Drop)]
+#[derive(Clone, Copy)]
 pub struct Form {
     pub machines: usize,
     pub states: usize,

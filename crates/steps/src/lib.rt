@@ -5,7 +5,7 @@ use machine::source::Place;
 
 // What events count for one machine. Durations are in microseconds.
 #[repr(C)]
-#[derive(Drop)]
+#[derive(Clone, Copy)]
 pub struct Counts {
     pub padding_sent: u64,
     pub normal_sent: u64,
@@ -14,7 +14,7 @@ pub struct Counts {
 
 // A machine's counters.
 #[repr(C)]
-#[derive(Drop)]
+#[derive(Clone, Copy)]
 pub struct Counters {
     pub counter_a: u64,
     pub counter_b: u64,
@@ -22,7 +22,7 @@ pub struct Counters {
 
 // One machine's state (framework.rs: MachineRuntime). Times are in microseconds.
 #[repr(C)]
-#[derive(Drop)]
+#[derive(Clone, Copy)]
 pub struct MachineRuntime {
     pub current_state: u64,
     pub state_limit: u64,
@@ -34,7 +34,7 @@ pub struct MachineRuntime {
 
 // What an opening fixes: the framework's fractions, and when it was opened.
 #[repr(C)]
-#[derive(Drop)]
+#[derive(Clone, Copy)]
 pub struct Fixed {
     pub max_padding_frac: f64,
     pub max_blocking_frac: f64,
@@ -43,7 +43,7 @@ pub struct Fixed {
 
 // What events count for the framework. Blocking is on where `blocking_active` is not 0.
 #[repr(C)]
-#[derive(Drop)]
+#[derive(Clone, Copy)]
 pub struct Totals {
     pub normal_sent_packets: u64,
     pub padding_sent_packets: u64,
@@ -56,7 +56,7 @@ pub struct Totals {
 // a meaning: `ended` is how many machines are in STATE_END, `signal_pending` is 0 for none, 1 for all machines, 2 + m for all but
 // machine m. The machines stand first: a copy of them alone is then as long as they are.
 #[repr(C)]
-#[derive(Drop)]
+#[derive(Clone, Copy)]
 pub struct Framework {
     pub runtime: [MachineRuntime; 16],
     pub machines: u64,
@@ -68,7 +68,7 @@ pub struct Framework {
 }
 
 // A machine's pending action (framework.rs: Option<TriggerAction>), as an output row has it; kind 0 is none.
-#[derive(Drop)]
+#[derive(Clone, Copy)]
 pub struct TriggerAction {
     pub kind: u64,
     pub flags: u64,
@@ -78,14 +78,14 @@ pub struct TriggerAction {
 }
 
 // Which counters have reported zero in this call (framework.rs: counter_zeroed_once).
-#[derive(Drop)]
+#[derive(Clone, Copy)]
 pub struct Zeroed {
     pub counter_a: bool,
     pub counter_b: bool,
 }
 
 // What one call threads through all machines: the pending signal, where the tapes go on, and which counters have reported zero.
-#[derive(Drop)]
+#[derive(Clone, Copy)]
 pub struct Shared {
     pub signal_pending: u64,
     pub place: Place,
@@ -94,7 +94,7 @@ pub struct Shared {
 
 // What a machine's transition reads and does not change: its number and its row's limits, then the framework's own numbers, flat,
 // so that it is lent on without a copy. The row's fractions are its words, since most transitions do not judge them.
-#[derive(Drop)]
+#[derive(Clone, Copy)]
 pub struct Context {
     pub machine: u64,
     pub allowed_padding_packets: u64,
@@ -112,7 +112,7 @@ pub struct Context {
 }
 
 // A machine after a step, and whether its state changed (framework.rs: StateChange).
-#[derive(Drop)]
+#[derive(Clone, Copy)]
 pub struct Step {
     pub runtime: MachineRuntime,
     pub shared: Shared,
@@ -121,7 +121,7 @@ pub struct Step {
 }
 
 // A step, or the refusal that it met.
-#[derive(Drop)]
+#[derive(Clone, Copy)]
 pub enum Stepped {
     Refused(u64),
     Done(Step),
@@ -129,7 +129,7 @@ pub enum Stepped {
 
 // A counter after its update: its value, where the tapes go on, whether it has reported zero in this call, and whether it does
 // so now.
-#[derive(Drop)]
+#[derive(Clone, Copy)]
 pub struct Counter {
     pub value: u64,
     pub at: Place,
@@ -137,7 +137,7 @@ pub struct Counter {
     pub reports: bool,
 }
 
-#[derive(Drop)]
+#[derive(Clone, Copy)]
 pub enum Counted {
     Refused(u64),
     NewValue(Counter),
@@ -145,7 +145,7 @@ pub enum Counted {
 
 // A row's counters after the update of some of them: their values, where the tapes go on, which have reported zero in this call,
 // and whether one does so now.
-#[derive(Drop)]
+#[derive(Clone, Copy)]
 pub struct Tally {
     pub counters: Counters,
     pub place: Place,
@@ -153,7 +153,7 @@ pub struct Tally {
     pub reports: bool,
 }
 
-#[derive(Drop)]
+#[derive(Clone, Copy)]
 pub enum Tallied {
     Refused(u64),
     At(Tally),
@@ -161,7 +161,7 @@ pub enum Tallied {
 
 // A machine after its counter update, and what update_counter answers: whether an action may be scheduled, and whether the state
 // changed on the way.
-#[derive(Drop)]
+#[derive(Clone, Copy)]
 pub struct Update {
     pub runtime: MachineRuntime,
     pub shared: Shared,
@@ -170,35 +170,35 @@ pub struct Update {
     pub state_changed: bool,
 }
 
-#[derive(Drop)]
+#[derive(Clone, Copy)]
 pub enum Updated {
     Refused(u64),
     Ready(Update),
 }
 
 // A machine in a state, its limit drawn where the state is another one, and where the tapes go on.
-#[derive(Drop)]
+#[derive(Clone, Copy)]
 pub enum Entered {
     Refused(u64),
     In(MachineRuntime, Place),
 }
 
 // An action to return, and where the tapes go on.
-#[derive(Drop)]
+#[derive(Clone, Copy)]
 pub enum Scheduled {
     Refused(u64),
     Set(TriggerAction, Place),
 }
 
 // Whether a run went to its end.
-#[derive(Drop)]
+#[derive(Clone, Copy)]
 pub enum Verdict {
     Complete,
     Refused(u64),
 }
 
 // A run of events or signals over all machines; after a refusal, all as it was when the run began.
-#[derive(Drop)]
+#[derive(Clone, Copy)]
 pub struct Ran {
     pub framework: Framework,
     pub verdict: Verdict,
@@ -208,7 +208,7 @@ pub struct Ran {
 
 // The answer of an opening: the refusal or 0, how many draws of each tape it took, and the framework.
 #[repr(C)]
-#[derive(Drop)]
+#[derive(Clone, Copy)]
 pub struct Opened {
     pub refusal: u64,
     pub chance_used: u64,
@@ -218,7 +218,7 @@ pub struct Opened {
 
 // The answer of a batch: the refusal or 0, how many rows it wrote, how many draws of each tape it took, and the framework.
 #[repr(C)]
-#[derive(Drop)]
+#[derive(Clone, Copy)]
 pub struct Answer {
     pub refusal: u64,
     pub actions: u64,
@@ -229,7 +229,7 @@ pub struct Answer {
 
 // The answer of an opening from raw words: the refusal or 0, how many words it took, and the framework.
 #[repr(C)]
-#[derive(Drop)]
+#[derive(Clone, Copy)]
 pub struct OpenedWords {
     pub refusal: u64,
     pub words_used: u64,
@@ -238,7 +238,7 @@ pub struct OpenedWords {
 
 // The answer of a batch from raw words: the refusal or 0, how many rows it wrote, how many words it took, and the framework.
 #[repr(C)]
-#[derive(Drop)]
+#[derive(Clone, Copy)]
 pub struct AnswerWords {
     pub refusal: u64,
     pub actions: u64,

@@ -26,7 +26,7 @@ use machine::constants::{MACHINE_WORDS, STATE_WORDS, TRANSITION_WORDS};
 const HEADER_WORDS: usize = 9;
 
 // Where the parts behind the machine table start.
-#[derive(Drop)]
+#[derive(Clone, Copy)]
 pub struct Layout {
     pub states: usize,
     pub transitions: usize,
@@ -36,7 +36,7 @@ pub struct Layout {
 }
 
 // A call: its time, where its events start, and where the next call does.
-#[derive(Drop)]
+#[derive(Clone, Copy)]
 pub struct Call {
     pub time: u64,
     pub events: usize,
