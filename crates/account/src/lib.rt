@@ -1,5 +1,7 @@
 // process_event of framework.rs, but for the machines' transitions: what an event counts, and which
 // machines hear it. Each function takes the numbers that it reads and never the framework.
+#![tactic(auto)]
+
 ghost use Rattle.std.specs.Prelude.{◌≡◌, ◌+◌, ◌≤◌, ◌<◌};
 ghost use Rattle.machine.specs.Constants.{state_words, first_state, num_states};
 ghost use Rattle.machine.specs.State.{rows_of};

@@ -1,4 +1,6 @@
 // A word in its 21 columns, and the words of a row, one behind the other.
+#![tactic(auto)]
+
 ghost use Rattle.std.specs.Prelude.{◌≡◌, true, ◌*◌, ◌-◌, ◌≤◌, ◌<◌, ◌^◌, length};
 ghost use Rattle.cells.specs.Cells.{word_columns, leading, is_cell, cell_of};
 ghost use Rattle.cells.specs.Digits.{is_digit, column_of, last_of, no_cell};

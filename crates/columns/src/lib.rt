@@ -1,4 +1,6 @@
 // A number in columns, right-justified: its digits are written straight to their places.
+#![tactic(auto)]
+
 ghost use Rattle.std.specs.Prelude.{◌≡◌, ◌++◌, ◌+◌, ◌*◌, ◌≤◌, ◌<◌, length, drop};
 ghost use Rattle.columns.specs.Columns.{cell_in, rights};
 ghost use Rattle.columns.specs.Parts.{spaces_in, digits_in};

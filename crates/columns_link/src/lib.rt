@@ -1,4 +1,6 @@
 // The routine that puts numbers in columns as C functions, for bench/columns: it is compared with plain Rust there, and timed.
+#![tactic(auto)]
+
 ghost use Rattle.std.specs.Prelude.{◌<◌};
 ghost use Rattle.columns_link.specs.Put.{Put};
 

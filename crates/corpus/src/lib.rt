@@ -1,5 +1,7 @@
 // The recorded corpus on standard input, little-endian words. Its format is in
 // reference/corpus/README.md.
+#![tactic(auto)]
+
 ghost use Rattle.std.specs.Prelude.{◌+◌, ◌≤◌, length};
 
 use machine::constants::{MACHINE_MAX, ROW_WORDS};

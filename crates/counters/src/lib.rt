@@ -1,4 +1,6 @@
 // framework.rs: the counters of update_counter.
+#![tactic(auto)]
+
 ghost use Rattle.std.specs.Prelude.{◌≡◌, ◌&&◌, ◌||◌, get_or, eqb, ◌+◌, ◌≤◌};
 ghost use Rattle.machine.specs.Constants.{counter_a, counter_b, state_words};
 ghost use Rattle.machine.specs.Words.{lent_values};

@@ -1,4 +1,6 @@
 // dist.rs: a distribution, and what is drawn from it.
+#![tactic(auto)]
+
 ghost use Rattle.std.specs.Prelude.{◌≡◌, ◌≤◌};
 ghost use Rattle.machine.specs.Constants.{state_words};
 ghost use Rattle.machine.specs.Source.{tape_values};

@@ -1,4 +1,6 @@
 // The rows of a batch in the order in which they fall due (document 02, job 2), in a second lent buffer.
+#![tactic(auto)]
+
 ghost use Rattle.std.specs.Prelude.{◌≡◌, ◌*◌, ◌≤◌, length};
 ghost use Rattle.machine.specs.Constants.{row_words};
 ghost use Rattle.due.specs.Due.{rows_of, kinds_known, no_rows, Lists};

@@ -1,4 +1,6 @@
 // framework.rs, process_event: the events of a batch in order, each heard by its machines in order.
+#![tactic(auto)]
+
 ghost use Rattle.std.specs.Prelude.{◌≡◌, true, ◌/◌, length};
 ghost use Rattle.machine.specs.Words.{lent};
 ghost use Rattle.steps.specs.Events.{each, event_turn};

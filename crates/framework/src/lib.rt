@@ -1,5 +1,7 @@
 // framework.rs, the outer half: the opening, a batch of events with its refusals and its output, each from two tapes and from
 // raw words, and all_machines_ended.
+#![tactic(auto)]
+
 ghost use Rattle.std.specs.Prelude.{◌≡◌, true, cond, ◌&&◌, List, [], ℕ, ◌*◌, ◌/◌, ◌≤◌, length};
 ghost use Rattle.machine.specs.Constants.{row_words};
 ghost use Rattle.tables.specs.Machine.{tables_refusal};

@@ -1,5 +1,7 @@
 // framework.rs: whether the limits let a state's action be scheduled (below_action_limits,
 // below_limit_blocking, below_limit_padding).
+#![tactic(auto)]
+
 ghost use Rattle.std.specs.Prelude.{◌≡◌, ◌&&◌};
 ghost use Rattle.steps.specs.Limits.{replace_of, below_fraction, below_limit_padding, blocking_on, with_ongoing, blocking_reached, own_reached, all_reached, below_limit_blocking, below_action_limits};
 

@@ -1,4 +1,6 @@
 // The printed run: reads the input's words, runs its calls, and hands the text over call by call.
+#![tactic(auto)]
+
 mod handing;
 
 ghost use Rattle.std.specs.Prelude.{◌≡◌, [], ◌≤◌, length, drop};

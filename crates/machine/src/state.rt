@@ -56,8 +56,8 @@ pub fn state_row(rows: &[u64], state: u64) -> &[u64]
 
 // The first transition row of an event that has some: then the word is there.
 pub fn first_of(row: &[u64], event: u64) -> u64
-    requires fact_1 { event < event_num }
-    requires fact_2 { (count_of row.now event ≡ 0 → ⊥) }
+    requires known_event { event < event_num }
+    requires has_rows { (count_of row.now event ≡ 0 → ⊥) }
     ensures { result ≡ first_of row.now event }
 {
     row[EVENTS + (event as usize) * 2]

@@ -1,6 +1,8 @@
 // The arithmetic that the Rust takes from its language and its standard library: bit patterns as
 // floats, counts as floats, floats as whole numbers, sums and differences that stop at the ends of
 // u64, and the test of a fraction. time.rs is the module `time`.
+#![tactic(auto)]
+
 ghost use Rattle.std.specs.Prelude.{◌≡◌, ◌-◌, ◌%◌, min, pos};
 ghost use Rattle.std.specs.Float.Ieee as Ieee;
 ghost use Rattle.std.specs.Float.{binary32, binary64};

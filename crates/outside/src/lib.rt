@@ -1,5 +1,7 @@
 // Refusal 24: a distribution of kind 2, drawn outside, in a field that is used. No row is trusted to
 // have its words.
+#![tactic(auto)]
+
 ghost use Rattle.std.specs.Prelude.{◌≡◌, false, ◌+◌, ◌*◌, ◌/◌, ◌≤◌, length, get_or};
 ghost use Rattle.machine.specs.Constants.{machine_words, state_words};
 ghost use Rattle.outside.specs.Outside as Spec;

@@ -1,6 +1,8 @@
 // Runs the recorded answers of the Rust through the library, and says how many agreed: every word
 // of each answer and of the framework's state after each call, and besides, on each case, calls
 // that no input of linkrun can make (damage.rt). Standard input is the corpus.
+#![tactic(auto)]
+
 mod answer;
 mod damage;
 mod judge;

@@ -6,6 +6,8 @@
 // longer row marks its targets: one clearing of 128 bytes, or of 12.5 KB where the machine has more
 // than 1,022 states, then one test for each transition. A row with more than n + 2 transitions
 // repeats a target, so no walk is longer than n + 3.
+#![tactic(auto)]
+
 ghost use Rattle.std.specs.Prelude.{◌≡◌, false, ℕ, ◌+◌, ◌-◌, ◌*◌, ◌≤◌, ◌<◌, length, get_or};
 ghost use Rattle.machine.specs.Constants.{state_max};
 ghost use Rattle.machine.specs.State.{target_at, probability_at};
@@ -127,9 +129,9 @@ fn check_sum(sum: f32) -> u64
 // ---- rows of one transition or two
 
 fn check_one_or_two(transitions: &[u64], n: u64, first: usize, end: usize) -> u64
-    requires fact_1 { first < end }
-    requires fact_2 { end ≤ first + 2 }
-    requires fact_3 { end * 2 ≤ length transitions.now }
+    requires some { first < end }
+    requires short { end ≤ first + 2 }
+    requires inside { end * 2 ≤ length transitions.now }
     ensures { result ≡ Spec.row_refusal transitions.now n first (end - first) }
 {
     let refusal = check_transition(transitions, n, first, false);
@@ -154,8 +156,8 @@ fn check_one_or_two(transitions: &[u64], n: u64, first: usize, end: usize) -> u6
 
 // Whether transition i has the target of an earlier one.
 fn seen_before(transitions: &[u64], first: usize, i: usize) -> bool
-    requires fact_1 { first ≤ i }
-    requires fact_2 { (i + 1) * 2 ≤ length transitions.now }
+    requires from_first { first ≤ i }
+    requires inside { (i + 1) * 2 ≤ length transitions.now }
     ensures { result ≡ Spec.seen_before transitions.now first i }
 {
     let target = target_at(transitions, i);
@@ -171,8 +173,8 @@ fn seen_before(transitions: &[u64], first: usize, i: usize) -> bool
 
 // One turn a transition: its refusals, then its part of the sum.
 fn check_short_row(transitions: &[u64], n: u64, first: usize, end: usize) -> u64
-    requires fact_1 { first ≤ end }
-    requires fact_2 { end * 2 ≤ length transitions.now }
+    requires in_order { first ≤ end }
+    requires inside { end * 2 ≤ length transitions.now }
     ensures { result ≡ Spec.row_refusal transitions.now n first (end - first) }
 {
     let mut sum: f32 = 0.0;
@@ -193,11 +195,11 @@ fn check_short_row(transitions: &[u64], n: u64, first: usize, end: usize) -> u64
 
 // With a clear mark for each target that there is.
 fn check_marked_row(transitions: &[u64], n: u64, first: usize, end: usize, marks: &mut [u64]) -> u64
-    requires fact_1 { n ≤ state_max }
-    requires fact_2 { first ≤ end }
-    requires fact_3 { end * 2 ≤ length transitions.now }
-    requires fact_4 { n + 2 ≤ length marks.old * 64 }
-    requires fact_5 { ((m : ℕ) → is_marked marks.old m ≡ false) }
+    requires few_states { n ≤ state_max }
+    requires in_order { first ≤ end }
+    requires inside { end * 2 ≤ length transitions.now }
+    requires room { n + 2 ≤ length marks.old * 64 }
+    requires unmarked { ((m : ℕ) → is_marked marks.old m ≡ false) }
     ensures { result ≡ Spec.row_refusal transitions.now n first (end - first) }
 {
     let mut sum: f32 = 0.0;
@@ -216,9 +218,9 @@ fn check_marked_row(transitions: &[u64], n: u64, first: usize, end: usize, marks
 
 // A row of a machine with few states, and so with few marks to clear.
 fn check_row_of_few(transitions: &[u64], n: u64, first: usize, end: usize) -> u64
-    requires fact_1 { n ≤ 1022 }
-    requires fact_2 { first ≤ end }
-    requires fact_3 { end * 2 ≤ length transitions.now }
+    requires few_states { n ≤ 1022 }
+    requires in_order { first ≤ end }
+    requires inside { end * 2 ≤ length transitions.now }
     ensures { result ≡ Spec.row_refusal transitions.now n first (end - first) }
 {
     let mut marks = [0; 16];
@@ -227,9 +229,9 @@ fn check_row_of_few(transitions: &[u64], n: u64, first: usize, end: usize) -> u6
 
 // A row of any machine.
 fn check_row_of_many(transitions: &[u64], n: u64, first: usize, end: usize) -> u64
-    requires fact_1 { n ≤ state_max }
-    requires fact_2 { first ≤ end }
-    requires fact_3 { end * 2 ≤ length transitions.now }
+    requires few_states { n ≤ state_max }
+    requires in_order { first ≤ end }
+    requires inside { end * 2 ≤ length transitions.now }
     ensures { result ≡ Spec.row_refusal transitions.now n first (end - first) }
 {
     let mut marks = [0; 1563];
@@ -257,8 +259,8 @@ fn check_row(transitions: &[u64], n: u64, first: usize, end: usize) -> u64
 
 // A pair (first, count) with rows: that they are within the table, then each.
 pub fn check_pair(transitions: &[u64], n: u64, first: u64, count: u64) -> u64
-    requires fact_1 { n ≤ state_max }
-    requires fact_2 { 0 < count }
+    requires few_states { n ≤ state_max }
+    requires some { 0 < count }
     ensures { result ≡ Spec.pair_refusal transitions.now n first count }
 {
     let first = first as usize;

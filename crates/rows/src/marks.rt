@@ -42,8 +42,8 @@ fn mark(marks: &mut [u64], m: usize)
 
 // Whether a target was met before; from now on it was.
 pub fn meet(marks: &mut [u64], n: u64, target: u64) -> bool
-    requires fact_1 { n ≤ state_max }
-    requires fact_2 { n + 2 ≤ length marks.old * 64 }
+    requires few_states { n ≤ state_max }
+    requires room { n + 2 ≤ length marks.old * 64 }
     ensures { (result ≡ is_marked marks.old (mark_of n target))
         × (marks.new ≡ marked marks.old (mark_of n target)) }
 {

@@ -1,4 +1,6 @@
 // The calls of the printed run, each rendered into a lent line buffer.
+#![tactic(auto)]
+
 ghost use Rattle.std.specs.Prelude.{◌≡◌, ◌++◌, ◌+◌, ◌*◌, ◌≤◌, min, length, drop};
 ghost use Rattle.text.specs.Words.{chances as chancesOf, values as values_of};
 ghost use Rattle.stream.specs.Stream.{next_call, chance_words, value_words, check_of};

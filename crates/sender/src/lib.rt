@@ -1,4 +1,6 @@
 // What a sender links: the framework's entries as C functions. All exports stand in this crate.
+#![tactic(auto)]
+
 ghost use Rattle.std.specs.Prelude.{◌≡◌, []};
 ghost use Rattle.steps.specs.Framework as Spec;
 ghost use Rattle.machine.specs.Source.{tapes};

@@ -1,5 +1,7 @@
 // The tables as a text sheet (document 02, job 1): a line for each row, in columns. A reader into three lent tables, and a
 // writer.
+#![tactic(auto)]
+
 ghost use Rattle.std.specs.Prelude.{◌≡◌, leb};
 ghost use Rattle.sheet.specs.Sheet.{bytes_of};
 ghost use Rattle.sheet.specs.Reader.{no_rows, room_for, Reads};

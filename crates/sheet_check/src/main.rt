@@ -1,4 +1,6 @@
 // Judges a sheet at a desk: a sheet on standard input, one line on standard output.
+#![tactic(auto)]
+
 ghost use Rattle.std.specs.Prelude.{◌≡◌, ◌++◌, ◌≤◌, length, drop};
 ghost use Rattle.sheet_check.specs.Verdict.{verdict_line, judged_line, report_line, line_length};
 

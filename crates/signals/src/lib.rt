@@ -1,4 +1,6 @@
 // The signals after the last event of a batch.
+#![tactic(auto)]
+
 ghost use Rattle.std.specs.Prelude.{◌≡◌, ◌&&◌, ◌+◌, ◌≤◌, leb, ltb};
 ghost use Rattle.machine.specs.Words.{lent};
 ghost use Rattle.steps.specs.Events.{signals};

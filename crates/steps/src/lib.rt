@@ -1,6 +1,8 @@
 // The types of framework.rs. The definitions of its steps stand in specs/; the code that equals them is in `counters`,
 // `limits`, `moves`, `transition`, `account`, `events`, `signals` and `framework`. Records are made of parts, so that
 // what a step changes is one of them.
+#![tactic(auto)]
+
 use machine::source::Place;
 
 // What events count for one machine. Durations are in microseconds.

@@ -1,4 +1,6 @@
 // The input of the printed run: its check, its parts and its calls.
+#![tactic(auto)]
+
 ghost use Rattle.std.specs.Prelude.{◌≡◌, ◌+◌, ◌*◌, ◌-◌, ◌≤◌, ◌<◌, min, length, get_or, take, drop};
 ghost use Rattle.stream.specs.Stream.{
   call_of,

@@ -1,5 +1,7 @@
 // The checks of what the sender lends at an opening and with each batch: refusals 1 to 15, each
 // answer the number of the first refusal in document 01's order, or 0.
+#![tactic(auto)]
+
 ghost use Rattle.std.specs.Prelude.{◌≡◌, ◌*◌, ◌%◌, ◌≤◌, ◌<◌, length, eqb};
 ghost use Rattle.machine.specs.Constants.{machine_words};
 ghost use Rattle.tables.specs.Framework.{is_fraction, fractions_refusal};

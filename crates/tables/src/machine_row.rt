@@ -19,8 +19,8 @@ fn beyond_fraction(x: f64) -> bool
 
 // Each of n states, whose rows are given.
 fn check_each_state(rows: &[u64], transitions: &[u64], n: u64) -> u64
-    requires fact_1 { length rows.now ≡ n * state_words }
-    requires fact_2 { n ≤ state_max }
+    requires whole_rows { length rows.now ≡ n * state_words }
+    requires few_states { n ≤ state_max }
     ensures { result ≡ each_state transitions.now n rows.now }
 {
     let count = n as usize;

@@ -14,9 +14,9 @@ use machine::constants::{
 
 // One event. Where its count is 0 it has no row, and its first row is not read.
 fn check_event(transitions: &[u64], n: u64, row: &[u64], event: u64) -> u64
-    requires fact_1 { n ≤ state_max }
-    requires fact_2 { length row.now ≡ state_words }
-    requires fact_3 { event < event_num }
+    requires few_states { n ≤ state_max }
+    requires whole_row { length row.now ≡ state_words }
+    requires known_event { event < event_num }
     ensures { result ≡ pair_refusal transitions.now n (first_of row.now event) (count_of row.now event) }
 {
     let at = EVENTS + (event as usize) * 2;
@@ -29,8 +29,8 @@ fn check_event(transitions: &[u64], n: u64, row: &[u64], event: u64) -> u64
 
 // Event by event, in the order of `Event`.
 fn check_events(transitions: &[u64], n: u64, row: &[u64]) -> u64
-    requires fact_1 { n ≤ state_max }
-    requires fact_2 { length row.now ≡ state_words }
+    requires few_states { n ≤ state_max }
+    requires whole_row { length row.now ≡ state_words }
     ensures { result ≡ Spec.events_refusal transitions.now n row.now }
 {
     let mut event = 0;
@@ -56,8 +56,8 @@ fn above(row: &[u64], k: usize, last: u64) -> bool
 
 // The kind of a distribution that the action needs, at word k.
 fn needed_unknown(row: &[u64], k: usize) -> bool
-    requires fact_1 { length row.now ≡ state_words }
-    requires fact_2 { k < state_words }
+    requires whole_row { length row.now ≡ state_words }
+    requires in_row { k < state_words }
     ensures { result ≡ Spec.needed_unknown (get_or row.now k 0) }
 {
     if row[k] == ABSENT {
@@ -110,8 +110,8 @@ fn action_unknown(row: &[u64]) -> bool
 
 // The counter that begins at word k. Its distribution's kind counts even under copy.
 fn counter_unknown(row: &[u64], k: usize) -> bool
-    requires fact_1 { length row.now ≡ state_words }
-    requires fact_2 { k + 7 ≤ state_words }
+    requires whole_row { length row.now ≡ state_words }
+    requires in_row { k + 7 ≤ state_words }
     ensures { result ≡ Spec.counter_unknown row.now k }
 {
     if row[k] == 0 {
@@ -143,8 +143,8 @@ fn codes_unknown(row: &[u64]) -> bool
 
 // Dist::validate of the five words at k; only a Uniform's bounds are read.
 fn invalid(row: &[u64], k: usize) -> bool
-    requires fact_1 { length row.now ≡ state_words }
-    requires fact_2 { k + 5 ≤ state_words }
+    requires whole_row { length row.now ≡ state_words }
+    requires in_row { k + 5 ≤ state_words }
     ensures { result ≡ Spec.invalid row.now k }
 {
     if row[k] != UNIFORM {
@@ -188,8 +188,8 @@ fn action_invalid(row: &[u64]) -> bool
 }
 
 fn counter_invalid(row: &[u64], k: usize) -> bool
-    requires fact_1 { length row.now ≡ state_words }
-    requires fact_2 { k + 7 ≤ state_words }
+    requires whole_row { length row.now ≡ state_words }
+    requires in_row { k + 7 ≤ state_words }
     ensures { result ≡ Spec.counter_invalid row.now k }
 {
     if row[k] == 0 {
@@ -215,8 +215,8 @@ fn dists_invalid(row: &[u64]) -> bool
 
 // Event by event; then the codes of the action and both counters; then their distributions.
 pub fn check_state(transitions: &[u64], n: u64, row: &[u64]) -> u64
-    requires fact_1 { n ≤ state_max }
-    requires fact_2 { length row.now ≡ state_words }
+    requires few_states { n ≤ state_max }
+    requires whole_row { length row.now ≡ state_words }
     ensures { result ≡ Spec.state_refusal transitions.now n row.now }
 {
     let refusal = check_events(transitions, n, row);

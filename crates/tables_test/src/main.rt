@@ -2,6 +2,8 @@
 // for each that does, an x for each that does not. The tables stand in one list of words: a machine row more
 // than there may be, three state rows, and four transition rows. Machine 0 has the first two states, the
 // others have the third.
+#![tactic(auto)]
+
 ghost use Rattle.std.specs.Prelude.{◌≡◌, ◌≤◌, length};
 
 use libc::STDOUT_FILENO;

@@ -1,4 +1,6 @@
 // The text of the printed run on lent bytes, and words and floats out of its input.
+#![tactic(auto)]
+
 ghost use Rattle.std.specs.Prelude.{◌≡◌, ◌++◌, ◌+◌, ◌*◌, ◌≤◌, ◌<◌, length, drop};
 ghost use Rattle.machine.specs.Constants.{row_words};
 ghost use Rattle.text.specs.Printed.{call_line, row_line, row_in, call_text};

@@ -1,5 +1,7 @@
 // The inner half of framework.rs: one machine's transition with its counter update, and the fall of
 // its state limit. One machine goes in and comes back.
+#![tactic(auto)]
+
 ghost use Rattle.std.specs.Prelude.{◌≡◌, not, ◌&&◌, eqb, ℕ, ◌≤◌, ◌<◌};
 ghost use Rattle.machine.specs.Constants.{state_end};
 ghost use Rattle.machine.specs.Words.{lent};
