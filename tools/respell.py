@@ -14,7 +14,6 @@ import sys
 
 NAME = r"[^\s(){}.;,@\"«»\[\]\\λ:]+"
 HEAD = re.compile(r"(?:(?:pub|abbrev|unfoldable|opaque) )*(data|record)? ?(" + NAME + r")(?: :|$| \(| \{)")
-FIELD = re.compile(r" +(?:pub )?(" + NAME + r"(?: " + NAME + r")*) :(?: |$)")
 WORD = re.compile(r"[A-Za-z0-9_'′+*·-]+")
 CAMEL = re.compile(r"[a-z][a-z0-9]*(?:[A-Z][a-z0-9]*)+")
 # The library's words that the repository's lemmas are named after.
@@ -43,6 +42,10 @@ def declared():
             found = HEAD.match(line)
             if found and not line.startswith(("use ", "--", "unfolding", "mod ", "pub mod", " ")):
                 names[found.group(2)] += 1
+            # what a module or a record inside the file declares
+            inner = re.match(r" +pub (" + NAME + r") :", line)
+            if inner:
+                names[inner.group(1)] += 1
     return names
 
 

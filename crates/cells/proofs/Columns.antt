@@ -35,39 +35,39 @@ bounds_digit b l u = rw (le-leb 48 b l, le-leb b 57 u)
 -- ---- one column, case by case
 
 module _ (n b : ℕ) where
-  pub before-digits : b ≡ 32 → n ≡ 0 → On 0 ≡ column_of n b
+  pub before_digits : b ≡ 32 → n ≡ 0 → On 0 ≡ column_of n b
   unfolding column_of
-  before-digits e z = rw (eq-eqb b 32 e, eq-eqb n 0 z)
+  before_digits e z = rw (eq-eqb b 32 e, eq-eqb n 0 z)
 
-  pub behind-digits : b ≡ 32 → (n ≡ 0 → ⊥) → Off ≡ column_of n b
+  pub behind_digits : b ≡ 32 → (n ≡ 0 → ⊥) → Off ≡ column_of n b
   unfolding column_of
-  behind-digits e z = rw (eq-eqb b 32 e, ne_eqb n 0 z)
+  behind_digits e z = rw (eq-eqb b 32 e, ne_eqb n 0 z)
 
   pub no_digit : (b ≡ 32 → ⊥) → is_digit b ≡ false → Off ≡ column_of n b
   unfolding column_of
   no_digit e d = rw (ne_eqb b 32 e, d)
 
-  pub leading-zero : (b ≡ 32 → ⊥) → is_digit b ≡ true → n * 10 + (b - 48) ≡ 0 → Off ≡ column_of n b
+  pub leading_zero : (b ≡ 32 → ⊥) → is_digit b ≡ true → n * 10 + (b - 48) ≡ 0 → Off ≡ column_of n b
   unfolding column_of
-  leading-zero e d z = rw (ne_eqb b 32 e, d, eq-eqb (n * 10 + (b - 48)) 0 z)
+  leading_zero e d z = rw (ne_eqb b 32 e, d, eq-eqb (n * 10 + (b - 48)) 0 z)
 
   pub one_digit : (b ≡ 32 → ⊥) → is_digit b ≡ true → (n * 10 + (b - 48) ≡ 0 → ⊥) → On (n * 10 + (b - 48)) ≡ column_of n b
   unfolding column_of
   one_digit e d z = rw (ne_eqb b 32 e, d, ne_eqb (n * 10 + (b - 48)) 0 z)
 
   -- ---- the last
-  pub last-other : is_digit b ≡ false → no_cell ≡ last_of n b
+  pub last_other : is_digit b ≡ false → no_cell ≡ last_of n b
   unfolding last_of
-  last-other d = rw d
+  last_other d = rw d
 
-  pub last-large : is_digit b ≡ true → 2 ^ 64 ≤ n * 10 + (b - 48) → no_cell ≡ last_of n b
+  pub last_large : is_digit b ≡ true → 2 ^ 64 ≤ n * 10 + (b - 48) → no_cell ≡ last_of n b
   unfolding last_of
-  last-large d g = rw (d, le-ltb (n * 10 + (b - 48)) (2 ^ 64) g)
+  last_large d g = rw (d, le-ltb (n * 10 + (b - 48)) (2 ^ 64) g)
 
-  pub last-digit : is_digit b ≡ true → n * 10 + (b - 48) < 2 ^ 64
+  pub last_digit : is_digit b ≡ true → n * 10 + (b - 48) < 2 ^ 64
       → ◌≡◌ {A = Cell} (record { good = true; word = n * 10 + (b - 48) }) (last_of n b)
   unfolding last_of
-  last-digit d g = rw (d, lt-ltb (n * 10 + (b - 48)) (2 ^ 64) g)
+  last_digit d g = rw (d, lt-ltb (n * 10 + (b - 48)) (2 ^ 64) g)
 
 -- ---- the columns of a number, from the left
 
@@ -154,7 +154,7 @@ column_on m = by_zero (eqb m 0) refl
     by_zero : (z : Bool) → eqb m 0 ≡ z → On m ≡ column_of (m / 10) (mark m)
     by_zero true e =
         let z : m ≡ 0 = eqb-true m 0 e in
-        rw e (ap On z ∙ before-digits (m / 10) 32 refl (omega arith))
+        rw e (ap On z ∙ before_digits (m / 10) 32 refl (omega arith))
     by_zero false e =
         let ne : (m ≡ 0 → ⊥) = eqb-false m 0 e in
         let v : m / 10 * 10 + (48 + m % 10 - 48) ≡ m = omega arith in
@@ -223,8 +223,8 @@ module _ (bytes : List ℕ) (i n : ℕ) (so_far : take i bytes ≡ rests i n) (s
 
 module _ (bytes : List ℕ) where
   -- no word has 21 digits
-  pub first-digit : (get_or bytes 0 0 ≡ 32 → ⊥) → no_cell ≡ cell_of bytes
-  first-digit h = sym (no_word bytes no)
+  pub first_digit : (get_or bytes 0 0 ≡ 32 → ⊥) → no_cell ≡ cell_of bytes
+  first_digit h = sym (no_word bytes no)
     where
       no : (v : ℕ) → v < 2 ^ 64 → bytes ≡ right word_columns v → ⊥
       no v l is =
@@ -232,9 +232,9 @@ module _ (bytes : List ℕ) where
           let z : cut 19 (v / 10) ≡ 0 = omega (arith, smaller 0 19 (v / 10) w, pow-zero 10) in
           h (rw z at (at-column bytes v is 0 19 refl).1)
 
-  pub first-space : 0 < length bytes → get_or bytes 0 0 ≡ 32 → take 1 bytes ≡ rests 1 0
+  pub first_space : 0 < length bytes → get_or bytes 0 0 ≡ 32 → take 1 bytes ≡ rests 1 0
   unfolding rests
-  first-space l h = grows bytes 0 0 l refl h
+  first_space l h = grows bytes 0 0 l refl h
 
   module _ (n : ℕ) (whole : length bytes ≡ 21) (so_far : take 20 bytes ≡ rests 20 n) (small : n < 10 ^ 20) where
     -- all columns of the word v

@@ -54,25 +54,25 @@ module _ (test : List ℕ → Bool) (step : ℕ) where
   passed_none n xs = rw (mul-zero, sub-zero) (sym (zero-add _))
 
   -- one more
-  pub passed-more : (n : ℕ) (xs : List ℕ) (i : ℕ) → i < n → Passed n xs i → test (take step (drop (step * i) xs)) ≡ true
+  pub passed_more : (n : ℕ) (xs : List ℕ) (i : ℕ) → i < n → Passed n xs i → test (take step (drop (step * i) xs)) ≡ true
       → Passed n xs (i + 1)
   unfolding leading
-  passed-more n xs i l h t =
+  passed_more n xs i l h t =
       let k : n - i ≡ suc (n - (i + 1)) = omega arith in
       let e : step * i + step ≡ step * (i + 1) = rw (add-one, mul-suc) in
       h ∙ rw (k, t, drop-drop step (step * i) xs, e) (omega arith)
 
   -- the next fails, or none is left
-  pub passed-fails : (n : ℕ) (xs : List ℕ) (i : ℕ) → i < n → Passed n xs i → test (take step (drop (step * i) xs)) ≡ false
+  pub passed_fails : (n : ℕ) (xs : List ℕ) (i : ℕ) → i < n → Passed n xs i → test (take step (drop (step * i) xs)) ≡ false
       → i ≡ leading test step n xs
   unfolding leading
-  passed-fails n xs i l h t =
+  passed_fails n xs i l h t =
       let k : n - i ≡ suc (n - (i + 1)) = omega arith in
       sym (h ∙ rw (k, t) (omega arith))
 
-  pub passed-all : (n : ℕ) (xs : List ℕ) (i : ℕ) → i ≡ n → Passed n xs i → i ≡ leading test step n xs
+  pub passed_all : (n : ℕ) (xs : List ℕ) (i : ℕ) → i ≡ n → Passed n xs i → i ≡ leading test step n xs
   unfolding leading
-  passed-all n xs i e h =
+  passed_all n xs i e h =
       let k : n - i ≡ 0 = omega arith in
       sym (h ∙ rw k (omega arith))
 

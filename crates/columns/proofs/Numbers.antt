@@ -44,6 +44,6 @@ module _ (w : ℕ) where
     )
 
     -- all
-    pub all-numbers : (out : List ℕ) (at i : ℕ) → i ≡ length ns → Stand i at out
+    pub all_numbers : (out : List ℕ) (at i : ℕ) → i ≡ length ns → Stand i at out
         → out ≡ rights w ns ++ drop (w * length ns) o
-    all-numbers out at i e s = rw (s.0, e, take-length ns) at s.1.is
+    all_numbers out at i e s = rw (s.0, e, take-length ns) at s.1.is

@@ -16,16 +16,16 @@ use Rattle.columns.specs.Parts.{spaces_in, digits_in}
 
 module _ (l : List ℕ) (at : ℕ) where
   -- none yet
-  pub no-space : spaces_in at at l ≡ l
+  pub no_space : spaces_in at at l ≡ l
   unfolding spaces_in
-  no-space =
+  no_space =
       let z : at - at ≡ 0 = omega arith in
       rw z (take-append-drop at l)
 
   -- one more
-  pub one-space : (i : ℕ) → at ≤ i → i < length l → set (spaces_in at i l) i 32 ≡ spaces_in at (i + 1) l
+  pub one_space : (i : ℕ) → at ≤ i → i < length l → set (spaces_in at i l) i 32 ≡ spaces_in at (i + 1) l
   unfolding spaces_in
-  one-space i h b =
+  one_space i h b =
       let S : List ℕ = replicate (i - at) 32 in
       let P : List ℕ = take at l ++ S in
       let k : length P ≡ i =
@@ -55,9 +55,9 @@ module _ (l : List ℕ) (at n : ℕ) where
 
   module _ (end j : ℕ) (e : end ≡ suc j) (h : at ≤ j) (b : j < length l) where
     -- the first digit
-    pub first-digit : n < 10 → set l j (48 + n) ≡ digits_in at end n l
+    pub first_digit : n < 10 → set l j (48 + n) ≡ digits_in at end n l
     unfolding digits_in
-    first-digit s =
+    first_digit s =
         let k : suc j - at ≡ suc (j - at) = omega arith in
         let m : suc j - 1 ≡ j = omega arith in
         rw (e, k, last_one (j - at) n s, m) (set_split l j (48 + n) b)
@@ -85,18 +85,18 @@ module _ (l : List ℕ) (at n end : ℕ) (inside : end ≤ length l) where
 
   module _ (room : at + 2 ≤ end) where
     -- two digits are left
-    pub two-left : 10 ≤ n → n < 100 → set (set l (end - 1) (48 + n % 10)) (end - 2) (48 + n / 10) ≡ digits_in at end n l
-    two-left h u =
+    pub two_left : 10 ≤ n → n < 100 → set (set l (end - 1) (48 + n % 10)) (end - 2) (48 + n / 10) ≡ digits_in at end n l
+    two_left h u =
         let t : List ℕ = set l (end - 1) (48 + n % 10) in
         let k : length t ≡ length l = length-set l (end - 1) (48 + n % 10) in
-        first-digit t at (n / 10) (end - 1) (end - 2) (omega arith) (omega arith) (omega arith) (omega arith)
+        first_digit t at (n / 10) (end - 1) (end - 2) (omega arith) (omega arith) (omega arith) (omega arith)
         ∙ one_digit l at n end (end - 1) (omega arith) (omega arith) (omega arith) h
 
     -- two digits, and those of the hundredth before them
-    pub two-more : 100 ≤ n
+    pub two_more : 100 ≤ n
         → digits_in at (end - 2) (n / 100) (set (set l (end - 1) (48 + n % 100 % 10)) (end - 2) (48 + n % 100 / 10))
         ≡ digits_in at end n l
-    two-more h =
+    two_more h =
         let a : n % 100 % 10 ≡ n % 10 = omega arith in
         let q : n / 100 ≡ n / 10 / 10 = omega arith in
         let b : n % 100 / 10 ≡ n / 10 % 10 = omega (arith, q) in
@@ -109,9 +109,9 @@ module _ (l : List ℕ) (at n end : ℕ) (inside : end ≤ length l) where
 -- ---- digits over spaces
 
 module _ (l : List ℕ) (at w n : ℕ) where
-  pub over-spaces : at + w ≤ length l → digits_in at (at + w) n (spaces_in at (at + w) l) ≡ cell_in at w n l
+  pub over_spaces : at + w ≤ length l → digits_in at (at + w) n (spaces_in at (at + w) l) ≡ cell_in at w n l
   unfolding digits_in spaces_in cell_in
-  over-spaces h =
+  over_spaces h =
       let z : at + w - at ≡ w = omega arith in
       let D : List ℕ = last_digits w n in
       let k : length D ≡ length (digits n) - (length (digits n) - w) = length_last w n in

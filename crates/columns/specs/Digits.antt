@@ -61,8 +61,8 @@ module _ (P : ℕ → Type 0) (small : (n : ℕ) → n < 10 → P n) (large : (n
       by_size true e fewer = small n (ltb-true n 10 e)
       by_size false e fewer = let l = ltb-false n 10 e in large n l (fewer l)
 
-  pub by-tenths : (n : ℕ) → P n
-  by-tenths n = below (suc n) n (omega arith)
+  pub by_tenths : (n : ℕ) → P n
+  by_tenths n = below (suc n) n (omega arith)
 
 -- ---- what the digits are
 
@@ -78,7 +78,7 @@ read_more bs b = foldl-append read_on 0 bs (b ∷ [])
 -- THEOREM: its digits, read back, are the number.
 pub read_digits : (n : ℕ) → read_back (digits n) ≡ n
 unfolding read_back
-read_digits = by-tenths (λ (n : ℕ). read_back (digits n) ≡ n) small large
+read_digits = by_tenths (λ (n : ℕ). read_back (digits n) ≡ n) small large
   where
     small : (n : ℕ) → n < 10 → read_back (digits n) ≡ n
     small n h = rw (one_digit n h) (read_digit 0 n h ∙ omega arith)

@@ -2,7 +2,7 @@
 use Rattle.std.specs.Prelude.{ℕ, zero, suc, ◌+◌, ◌-◌, ◌*◌, ◌/◌, ◌%◌, ◌≤◌, ◌<◌, ◌≡◌, refl, Bool, true, false, List, [], ◌∷◌, ◌++◌, eqb, length, get_or}
 use Rattle.std.proofs.Common.{sym, ap, ◌∙◌, subst, arith, length-append, eqb-true}
 use Rattle.std.proofs.lemmas.Bool.{eqb-false}
-use Rattle.columns.specs.Digits.{digits, one_digit, more_digits, by-tenths, read_back, read_digit, read_more}
+use Rattle.columns.specs.Digits.{digits, one_digit, more_digits, by_tenths, read_back, read_digit, read_more}
 
 -- bytes that are digits
 unfoldable pub Digits : List ℕ → Type 0
@@ -42,7 +42,7 @@ first_of (c ∷ bs) b h = refl
 
 each_digit : (n : ℕ) → Digits (digits n)
 unfolding Digits
-each_digit = by-tenths (λ (n : ℕ). Digits (digits n)) small large
+each_digit = by_tenths (λ (n : ℕ). Digits (digits n)) small large
   where
     small : (n : ℕ) → n < 10 → Digits (digits n)
     small n h = rw (one_digit n h) (omega arith, omega arith, tt)
@@ -52,7 +52,7 @@ each_digit = by-tenths (λ (n : ℕ). Digits (digits n)) small large
 
 -- there is one at least
 some_digit : (n : ℕ) → 0 < length (digits n)
-some_digit = by-tenths (λ (n : ℕ). 0 < length (digits n)) small large
+some_digit = by_tenths (λ (n : ℕ). 0 < length (digits n)) small large
   where
     small : (n : ℕ) → n < 10 → 0 < length (digits n)
     small n h = rw (one_digit n h) (omega arith)
@@ -62,7 +62,7 @@ some_digit = by-tenths (λ (n : ℕ). 0 < length (digits n)) small large
 
 -- the first is no zero, but for the number 0.
 no_leading_zero : (n : ℕ) → 0 < n → 48 < get_or (digits n) 0 0
-no_leading_zero = by-tenths (λ (n : ℕ). 0 < n → 48 < get_or (digits n) 0 0) small large
+no_leading_zero = by_tenths (λ (n : ℕ). 0 < n → 48 < get_or (digits n) 0 0) small large
   where
     small : (n : ℕ) → n < 10 → 0 < n → 48 < get_or (digits n) 0 0
     small n h p = rw (one_digit n h) (omega arith)

@@ -29,9 +29,9 @@ module _ (w : ℕ) (ns text : List ℕ) where
   pub no_room : length text < w * length ns → Put w ns text 0 text
   no_room h = rw (lt-leb (w * length ns) (length text) h) (refl, refl)
 
-  pub all-put : (out : List ℕ) → w * length ns ≤ length text → out ≡ rights w ns ++ drop (w * length ns) text
+  pub all_put : (out : List ℕ) → w * length ns ≤ length text → out ≡ rights w ns ++ drop (w * length ns) text
       → Put w ns text (w * length ns) out
-  all-put out h e = rw (le-leb (w * length ns) (length text) h) (refl, e)
+  all_put out h e = rw (le-leb (w * length ns) (length text) h) (refl, e)
 
 no_columns : (ns : List ℕ) → length (rights 0 ns) ≡ 0
 no_columns ns = length-rights 0 ns ∙ zero-mul (length ns)

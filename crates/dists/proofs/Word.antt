@@ -16,8 +16,8 @@ here (w ∷ ws) zero h = refl
 here (w ∷ ws) (suc i) h = here ws i (le_of_suc-le-suc h)
 
 module _ (low high : Float) (ws : List ℕ) (c i : ℕ) where
-  pub word-ends : length ws ≤ i → word_value low high (drop i ws) c i ≡ no 16 (place c i)
-  word-ends h = ap (λ (l : List ℕ). word_value low high l c i) (drop_of_length-le ws h)
+  pub word_ends : length ws ≤ i → word_value low high (drop i ws) c i ≡ no 16 (place c i)
+  word_ends h = ap (λ (l : List ℕ). word_value low high l c i) (drop_of_length-le ws h)
 
   module _ (h : i < length ws) where
     word-here : word_value low high (drop i ws) c i
@@ -36,6 +36,6 @@ module _ (low high : Float) (ws : List ℕ) (c i : ℕ) where
         → word_value low high (drop i ws) c i ≡ word_value low high (drop (i + 1) ws) c (i + 1)
     word_next e = word-here ∙ rw e
 
-    pub word-serves : le high (value_of low high (get_or ws i 0)) ≡ false
+    pub word_serves : le high (value_of low high (get_or ws i 0)) ≡ false
         → word_value low high (drop i ws) c i ≡ got (value_of low high (get_or ws i 0)) (place c (i + 1))
-    word-serves e = word-here ∙ rw e
+    word_serves e = word-here ∙ rw e

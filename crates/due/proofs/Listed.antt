@@ -16,14 +16,14 @@ module _ (rows out : List ℕ) where
   leaves : (r : Due) (x : List ℕ) → due_list rows out ≡ record { answer = r; out = x } → Lists rows out r x
   leaves r x e = (sym (ap (λ (l : Listed). l.answer) e), sym (ap (λ (l : Listed). l.out) e))
 
-  pub not-whole : (r : Due) → r ≡ no_rows 3 → (length rows % row_words ≡ 0 → ⊥) → Lists rows out r out
+  pub not_whole : (r : Due) → r ≡ no_rows 3 → (length rows % row_words ≡ 0 → ⊥) → Lists rows out r out
   unfolding due_list due_refusal
-  not-whole r is h = leaves r out (rw (ne_eqb (length rows % row_words) 0 h, is))
+  not_whole r is h = leaves r out (rw (ne_eqb (length rows % row_words) 0 h, is))
 
   module _ (whole : length rows % row_words ≡ 0) (known : Bool) (k : known ≡ kinds_known (all_rows rows)) where
-    pub unknown-kind : (r : Due) → r ≡ no_rows 14 → known ≡ false → Lists rows out r out
+    pub unknown_kind : (r : Due) → r ≡ no_rows 14 → known ≡ false → Lists rows out r out
     unfolding due_list due_refusal
-    unknown-kind r is h = leaves r out (rw (eq-eqb (length rows % row_words) 0 whole, ← k, h, is))
+    unknown_kind r is h = leaves r out (rw (eq-eqb (length rows % row_words) 0 whole, ← k, h, is))
 
     pub no_room : (r : Due) → r ≡ no_rows 20 → known ≡ true → length out < length rows → Lists rows out r out
     unfolding due_list due_refusal

@@ -23,13 +23,13 @@ module _ (P q : ℕ → Bool) (step : (n : ℕ) → P (suc n) ≡ P n && q n) wh
   stays i zero e = rw add-zero e
   stays i (suc k) e = rw add-suc (step (i + k) ∙ rw (stays i k e))
 
-  pub all-fails : (i n : ℕ) → i < n → P i ≡ true → q i ≡ false → P n ≡ false
-  all-fails i n h e f =
+  pub all_fails : (i n : ℕ) → i < n → P i ≡ true → q i ≡ false → P n ≡ false
+  all_fails i n h e f =
       let there : i + 1 + (n - (i + 1)) ≡ n = omega arith in
       subst (λ (k : ℕ). P k ≡ false) there (stays (i + 1) (n - (i + 1)) (rw add-one (step i ∙ rw (e, f))))
 
-  pub all-at : (i n : ℕ) → i < n → P n ≡ true → q i ≡ true
-  all-at i n h e =
+  pub all_at : (i n : ℕ) → i < n → P n ≡ true → q i ≡ true
+  all_at i n h e =
       let there : i + 1 + (n - (i + 1)) ≡ n = omega arith in
       ⊎_elim
       (λ t. t)

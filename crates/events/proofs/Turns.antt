@@ -27,15 +27,15 @@ use Rattle.steps.specs.declared.Totals.{Totals}
 use Rattle.moves.specs.Choice.{choose}
 use Rattle.moves.specs.declared.choice.Choice.{Choice}
 use Rattle.moves.specs.declared.choice.Choice.TheVariants.{Refused, Chosen}
-use Rattle.transition.specs.Transition.{going_at, turn-missing, turn-chosen}
+use Rattle.transition.specs.Transition.{going_at, turn_missing, turn_chosen}
 use Rattle.account.specs.Account.{only_counts}
 use Rattle.events.specs.Run.{run}
 
 -- a turn of `each`
 module _ (f : ℕ → Run → Outcome) (n i : ℕ) (x : Run) where
-  pub each-end : n ≤ i → each f (n - i) i x ≡ go x
+  pub each_end : n ≤ i → each f (n - i) i x ≡ go x
   unfolding each
-  each-end h = let none : n - i ≡ zero = omega arith in rw none
+  each_end h = let none : n - i ≡ zero = omega arith in rw none
 
   pub each_on : i < n → each f (n - i) i x ≡ and_then (f i x) (each f (n - (i + 1)) (i + 1))
   unfolding each
@@ -95,10 +95,10 @@ module _ {o : Outcome} {T : Tables} {D : Source Place} {es : List ℕ} {n kind m
   unfolding machine_turn
   ahead-stops h e = a.is ∙ rw (each_on (machine_turn T D kind machine blocked) end m (run fw actions s) h, e)
 
-  pub ahead-missing : ((e k : ℕ) (at : Place) → D.attempt e k at ≡ at) → m < end → {why : ℕ} → choice_at T D kind m fw s ≡ Refused why → o ≡ stop why
-  ahead-missing quiet h e =
+  pub ahead_missing : ((e k : ℕ) (at : Place) → D.attempt e k at ≡ at) → m < end → {why : ℕ} → choice_at T D kind m fw s ≡ Refused why → o ≡ stop why
+  ahead_missing quiet h e =
       ahead-stops h
-      (turn-missing (env_of T D fw m) quiet kind blocked (limit_falls kind machine m) (runtime_at fw m) s (get_or actions m no_action) e)
+      (turn_missing (env_of T D fw m) quiet kind blocked (limit_falls kind machine m) (runtime_at fw m) s (get_or actions m no_action) e)
 
   module _ (quiet : (e k : ℕ) (at : Place) → D.attempt e k at ≡ at) (h : m < end) {next : Next} {at : Place} (chosen : choice_at T D kind m fw s ≡ Chosen next at) where
     -- the turn, by what follows the choice
@@ -106,37 +106,37 @@ module _ {o : Outcome} {T : Tables} {D : Source Place} {es : List ℕ} {n kind m
         turned T D kind machine blocked m fw actions s
         ≡ after_transition (env_of T D fw m) (limit_falls kind machine m) (going_on T D kind blocked m fw actions s next at)
     on =
-        turn-chosen (env_of T D fw m) quiet kind blocked (limit_falls kind machine m) (runtime_at fw m) s (get_or actions m no_action) chosen
+        turn_chosen (env_of T D fw m) quiet kind blocked (limit_falls kind machine m) (runtime_at fw m) s (get_or actions m no_action) chosen
 
     -- and the fall of its limit
-    pub ahead-refused : {why : ℕ} →
+    pub ahead_refused : {why : ℕ} →
         after_transition (env_of T D fw m) (limit_falls kind machine m) (going_on T D kind blocked m fw actions s next at) ≡ Refused why →
         o ≡ stop why
-    ahead-refused g = ahead-stops h (on ∙ g)
+    ahead_refused g = ahead-stops h (on ∙ g)
 
-    pub ahead-done : {d : Step} →
+    pub ahead_done : {d : Step} →
         after_transition (env_of T D fw m) (limit_falls kind machine m) (going_on T D kind blocked m fw actions s next at) ≡ Done d →
         Ahead o T D es n kind machine blocked (m + 1) end i
         (with_runtime fw (set fw.runtime m d.runtime)) (set actions m d.action) d.shared
-    ahead-done g = ahead-turn h (on ∙ g)
+    ahead_done g = ahead-turn h (on ∙ g)
 
     -- the same, where the pending action stays
-    pub ahead-kept : {q : MachineRuntime} {t : Shared} {changed : Bool} →
+    pub ahead_kept : {q : MachineRuntime} {t : Shared} {changed : Bool} →
         after_transition (env_of T D fw m) (limit_falls kind machine m) (going_on T D kind blocked m fw actions s next at)
         ≡ done q t (get_or actions m no_action) changed →
         Ahead o T D es n kind machine blocked (m + 1) end i (with_runtime fw (set fw.runtime m q)) actions t
-    ahead-kept g = rw (set-get_or actions m no_action) at (ahead-done g)
+    ahead_kept g = rw (set-get_or actions m no_action) at (ahead_done g)
 
-    pub ahead-counts : only_counts (limit_falls kind machine m) next ≡ true →
+    pub ahead_counts : only_counts (limit_falls kind machine m) next ≡ true →
         Ahead o T D es n kind machine blocked (m + 1) end i
         (with_runtime fw (set fw.runtime m (counted_by kind blocked (runtime_at fw m)))) actions (with_place s at)
-    ahead-counts idle = ahead-kept (only _ _ _ _ _ _ idle)
+    ahead_counts idle = ahead_kept (only _ _ _ _ _ _ idle)
 
-  pub ahead-ends : end ≤ m → n ≤ i → o ≡ go (run fw actions s)
-  ahead-ends h last =
+  pub ahead_ends : end ≤ m → n ≤ i → o ≡ go (run fw actions s)
+  ahead_ends h last =
       a.is
-      ∙ rw (each-end (machine_turn T D kind machine blocked) end m (run fw actions s) h)
-      (each-end (event_turn T D es) n i (run fw actions s) last)
+      ∙ rw (each_end (machine_turn T D kind machine blocked) end m (run fw actions s) h)
+      (each_end (event_turn T D es) n i (run fw actions s) last)
 
   -- the next event is taken: the framework's counts first
   event-taken : end ≤ m → i < n →
@@ -151,16 +151,16 @@ module _ {o : Outcome} {T : Tables} {D : Source Place} {es : List ℕ} {n kind m
       record {
         is =
             a.is
-            ∙ rw (each-end (machine_turn T D kind machine blocked) end m (run fw actions s) h)
+            ∙ rw (each_end (machine_turn T D kind machine blocked) end m (run fw actions s) h)
             (each_on (event_turn T D es) n i (run fw actions s) more ∙ rw turns);
       }
 
   -- the same, of what the code works out
-  pub ahead-event : end ≤ m → i < n → {b first last : ℕ} {t : Totals} →
+  pub ahead_event : end ≤ m → i < n → {b first last : ℕ} {t : Totals} →
       b ≡ blocked_now fw →
       first ≡ first_for (kind_at es i) (machine_at es i) →
       last ≡ up_to (kind_at es i) (machine_at es i) fw →
       t ≡ totals_after (kind_at es i) fw.current_time fw.totals →
       Ahead o T D es n (kind_at es i) (machine_at es i) b first last (i + 1) (with_totals fw t) actions s
-  ahead-event h more since-is first_is last-is total-is =
+  ahead_event h more since-is first_is last-is total-is =
       rw (total-is, since-is, first_is, last-is) (event-taken h more)

@@ -12,11 +12,11 @@ use Rattle.machine.specs.Source.{Source}
 use Rattle.machine.specs.declared.source.Place.{Place}
 use Rattle.tables.specs.Machine.{tables_refusal}
 use Rattle.outside.specs.Outside.{draws_outside}
-use Rattle.tables.specs.Valid.Laws.{zero-valid}
+use Rattle.tables.specs.Valid.Laws.{zero_valid}
 use Rattle.steps.specs.Events.{Tables, num_machines}
 use Rattle.steps.specs.Framework.{or_else, rows_in, states_fit, ended_in, fits_tables, kinds_fit, events_fit, batch_refusal, trigger_events, refused, concluded, batch}
 use Rattle.steps.specs.Words.{outside_refused}
-use Rattle.steps.specs.Fits.{fits-says}
+use Rattle.steps.specs.Fits.{fits_says}
 use Rattle.steps.specs.declared.Framework.{Framework}
 use Rattle.events.proofs.All.{bool_cases}
 
@@ -61,15 +61,15 @@ module _ (raw : Bool) (T : Tables) where
   abbrev tables : ℕ
   tables = tables_refusal T.machines T.states T.transitions
 
-  pub outside-never : (tables ≡ 0 → ⊥) → outside_on raw T ≡ false
-  outside-never h = rw (ne_eqb tables 0 h) (by raw)
+  pub outside_never : (tables ≡ 0 → ⊥) → outside_on raw T ≡ false
+  outside_never h = rw (ne_eqb tables 0 h) (by raw)
     where
       by : (a : Bool) → (a && false) ≡ false
       by true = refl
       by false = refl
 
-  pub outside-asked : tables ≡ 0 → outside_on raw T ≡ (raw && draws_outside T.machines T.states)
-  outside-asked e = rw (eq-eqb tables 0 e)
+  pub outside_asked : tables ≡ 0 → outside_on raw T ≡ (raw && draws_outside T.machines T.states)
+  outside_asked e = rw (eq-eqb tables 0 e)
 
   module _ (fw : Framework) (es out : List ℕ) where
     pub passed_on : refusal_on raw fw T es out ≡ 0 → (outside_on raw T ≡ false) × (batch_refusal fw T es out ≡ 0)
@@ -79,10 +79,10 @@ module _ (raw : Bool) (T : Tables) where
         by true e = absurd (omega (arith, e))
         by false e = (refl, e)
 
-    pub refused-on : (time : ℕ) (D : Source Place) → (refusal_on raw fw T es out ≡ 0 → ⊥)
+    pub refused_on : (time : ℕ) (D : Source Place) → (refusal_on raw fw T es out ≡ 0 → ⊥)
         → cond (outside_on raw T) (refused fw out 24) (batch fw T time es D out) ≡ refused fw out (refusal_on raw fw T es out)
     unfolding batch
-    refused-on time D = by (outside_on raw T)
+    refused_on time D = by (outside_on raw T)
       where
         by : (b : Bool) → (cond b 24 (batch_refusal fw T es out) ≡ 0 → ⊥)
             → cond b (refused fw out 24)
@@ -93,7 +93,7 @@ module _ (raw : Bool) (T : Tables) where
 
 pub few_machines : (machines states transitions : List ℕ) →
     tables_refusal machines states transitions ≡ 0 → rows_in machines ≤ 16
-few_machines machines states transitions e = (zero-valid machines states transitions e).whole.most
+few_machines machines states transitions e = (zero_valid machines states transitions e).whole.most
 
 -- what 18 asks, by a look at n machines: as many as the tables have rows, or 16 where there are more, and these do not pass
 pub fits_is : (T : Tables) (fw : Framework) (n : ℕ) (fit : Bool) (found : ℕ) → n ≡ min (rows_in T.machines) 16
@@ -120,5 +120,5 @@ batch_passes fw T es out e =
     let fits = passes (fits_tables T fw) (cond (events_fit es) room 19) 18 (λ z. omega (arith, z)) (none_then _ _ e) in
     let events = passes (events_fit es) room 19 (λ z. omega (arith, z)) fits.1 in
     let long = ltb-false (length out) (6 * rows_in T.machines) (passes_not short 20 (λ z. omega (arith, z)) events.1) in
-    let count : fw.machines ≡ rows_in T.machines = (fits-says T fw (subst Holds (sym fits.0) tt)).machines in
+    let count : fw.machines ≡ rows_in T.machines = (fits_says T fw (subst Holds (sym fits.0) tt)).machines in
     (kinds_fit_lem es events.0, omega (arith, long, count))

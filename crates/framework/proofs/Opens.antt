@@ -11,7 +11,7 @@ use Rattle.steps.specs.declared.Entered.TheVariants.{Refused, In}
 use Rattle.steps.specs.declared.Framework.{Framework}
 use Rattle.steps.specs.declared.MachineRuntime.{MachineRuntime}
 use Rattle.events.specs.Run.{run}
-use Rattle.events.proofs.Turns.{each-end, each_on}
+use Rattle.events.proofs.Turns.{each_end, each_on}
 
 -- so far: no actions, the draws up to `at` taken
 abbrev pub opens : Framework → Place → Run
@@ -23,14 +23,14 @@ pub record Opens (o : Outcome) (T : Tables) (D : Source Place) (n m : ℕ) (fw :
 
 module _ {o : Outcome} {T : Tables} {D : Source Place} {n m : ℕ} {fw : Framework} {at : Place}
     (a : Opens o T D n m fw at) where
-  pub opens-end : n ≤ m → o ≡ go (opens fw at)
-  opens-end h = a.is ∙ each-end (open_turn T D) n m (opens fw at) h
+  pub opens_end : n ≤ m → o ≡ go (opens fw at)
+  opens_end h = a.is ∙ each_end (open_turn T D) n m (opens fw at) h
 
   module _ (h : m < n) where
-    pub opens-on : {r : MachineRuntime} {taken : Place} →
+    pub opens_on : {r : MachineRuntime} {taken : Place} →
         open_machine T D.values m fw.current_time at ≡ In r taken →
         Opens o T D n (m + 1) (with_runtime fw (set fw.runtime m r)) taken
-    opens-on e = record { is = a.is ∙ each_on (open_turn T D) n m (opens fw at) h ∙ rw e }
+    opens_on e = record { is = a.is ∙ each_on (open_turn T D) n m (opens fw at) h ∙ rw e }
 
-    pub opens-stop : {why : ℕ} → open_machine T D.values m fw.current_time at ≡ Refused why → o ≡ stop why
-    opens-stop e = a.is ∙ each_on (open_turn T D) n m (opens fw at) h ∙ rw e
+    pub opens_stop : {why : ℕ} → open_machine T D.values m fw.current_time at ≡ Refused why → o ≡ stop why
+    opens_stop e = a.is ∙ each_on (open_turn T D) n m (opens fw at) h ∙ rw e

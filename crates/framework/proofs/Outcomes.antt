@@ -7,10 +7,10 @@ use Rattle.steps.specs.declared.Verdict.TheVariants.{Complete, Refused}
 use Rattle.events.specs.Run.{run_of, ran_from}
 
 module _ (x : Run) where
-  pub stopped-is : (o : Outcome) (r : Ran) (n : ℕ) → r ≡ ran_from x o → r.verdict ≡ Refused n → o ≡ stop n
-  stopped-is (stop k) r n e v = let q : Refused k ≡ Refused n = sym (ap (λ (r : Ran). r.verdict) e) ∙ v in cc
-  stopped-is (go y) r n e v = let q : Complete ≡ Refused n = sym (ap (λ (r : Ran). r.verdict) e) ∙ v in cc
+  pub stopped_is : (o : Outcome) (r : Ran) (n : ℕ) → r ≡ ran_from x o → r.verdict ≡ Refused n → o ≡ stop n
+  stopped_is (stop k) r n e v = let q : Refused k ≡ Refused n = sym (ap (λ (r : Ran). r.verdict) e) ∙ v in cc
+  stopped_is (go y) r n e v = let q : Complete ≡ Refused n = sym (ap (λ (r : Ran). r.verdict) e) ∙ v in cc
 
-  pub complete-is : (o : Outcome) (r : Ran) → r ≡ ran_from x o → r.verdict ≡ Complete → o ≡ go (run_of r)
-  complete-is (stop k) r e v = let q : Refused k ≡ Complete = sym (ap (λ (r : Ran). r.verdict) e) ∙ v in cc
-  complete-is (go y) r e v = ap (λ (r : Ran). go (run_of r)) (sym e)
+  pub complete_is : (o : Outcome) (r : Ran) → r ≡ ran_from x o → r.verdict ≡ Complete → o ≡ go (run_of r)
+  complete_is (stop k) r e v = let q : Refused k ≡ Complete = sym (ap (λ (r : Ran). r.verdict) e) ∙ v in cc
+  complete_is (go y) r e v = ap (λ (r : Ran). go (run_of r)) (sym e)

@@ -35,9 +35,9 @@ module _ (actions : List TriggerAction) (m : ℕ) where
   unfolding action_rows
   rows_more = rw add-one
 
-  pub rows-longer :
+  pub rows_longer :
       length (action_rows actions (m + 1)) ≡ length (action_rows actions m) + length (action_row m (get_or actions m no_action))
-  rows-longer = ap length rows_more ∙ length-append (action_rows actions m) (action_row m (get_or actions m no_action))
+  rows_longer = ap length rows_more ∙ length-append (action_rows actions m) (action_row m (get_or actions m no_action))
 
   -- one machine's row behind those before it
   pub row_written : (o out ys : List ℕ) (at : ℕ) →

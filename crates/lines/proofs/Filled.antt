@@ -28,24 +28,24 @@ module _ (line : List ℕ) (words i : ℕ) (some : i ≤ words) (size : length l
       (sym (append_assoc R (_ ∷ []) (drop (suc i) o)))
 
 module _ (text : List ℕ) (words size i : ℕ) (fits : size ≡ line_bytes words) where
-  length_row : (line : List ℕ) → length line ≡ size → length (words_of words line) ≡ words
+  length-row : (line : List ℕ) → length line ≡ size → length (words_of words line) ≡ words
   unfolding words_of
-  length_row line h = length-words line words words (omega arith) (h ∙ fits)
+  length-row line h = length-words line words words (omega arith) (h ∙ fits)
 
   length-rows : size * i ≤ length text → length (each (words_of words) size i text) ≡ words * i
-  length-rows h = length-each (words_of words) size words length_row i text h
+  length-rows h = length-each (words_of words) size words length-row i text h
 
   -- a row more
-  pub one-row : (o table ys : List ℕ) (at end row : ℕ) → at ≡ size * i → row ≡ words * i → end ≡ at + size → end ≤ length text
+  pub one_row : (o table ys : List ℕ) (at end row : ℕ) → at ≡ size * i → row ≡ words * i → end ≡ at + size → end ≤ length text
       → table ≡ each (words_of words) size i text ++ drop row o
       → ys ≡ words_of words (take (end - at) (drop at text)) ++ drop words (from table row)
       → through table row ys ≡ each (words_of words) size (i + 1) text ++ drop (row + words) o
-  one-row o table ys at end row a r e l t y =
+  one_row o table ys at end row a r e l t y =
       let k : end - at ≡ size = omega arith in
       let R : List ℕ = each (words_of words) size i text in
       let w : List ℕ = words_of words (take size (drop at text)) in
       let n : length R ≡ words * i = length-rows (omega arith) in
       let d : length (drop at text) ≡ length text - at = length-drop at text in
-      let m : length w ≡ words = length_row (take size (drop at text)) (length-take-le size (drop at text) (omega arith)) in
+      let m : length w ≡ words = length-row (take size (drop at text)) (length-take-le size (drop at text) (omega arith)) in
       rw (add-one, each_more (words_of words) size i text, ← a)
       (written R o table w ys row words (omega arith) (sym m) t (rw k at y))

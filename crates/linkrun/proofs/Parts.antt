@@ -63,11 +63,11 @@ module _ (ws : List ℕ) (o : Started) (is : o ≡ started ws) where
   unfolding run_text
   opens = rw is
 
-  pub opens-refused : (o.refusal ≡ 0 → ⊥) → run_text ws ≡ call_text 0 o.refusal 0 [] ++ []
-  opens-refused h = opens ∙ rw (ne_eqb o.refusal 0 h)
+  pub opens_refused : (o.refusal ≡ 0 → ⊥) → run_text ws ≡ call_text 0 o.refusal 0 [] ++ []
+  opens_refused h = opens ∙ rw (ne_eqb o.refusal 0 h)
 
-  pub opens-accepted : o.refusal ≡ 0 → run_text ws ≡ call_text 0 o.refusal 0 [] ++ calls_text ws (call_count ws) 1 o.stands
-  opens-accepted h = opens ∙ rw (eq-eqb o.refusal 0 h)
+  pub opens_accepted : o.refusal ≡ 0 → run_text ws ≡ call_text 0 o.refusal 0 [] ++ calls_text ws (call_count ws) 1 o.stands
+  opens_accepted h = opens ∙ rw (eq-eqb o.refusal 0 h)
 
   pub at_first : (o.stands.next ≡ calls_at ws) × (o.stands.chance ≡ 0)
   unfolding started
@@ -75,10 +75,10 @@ module _ (ws : List ℕ) (o : Started) (is : o ≡ started ws) where
 
 -- ---- the input's text
 module _ (bs : List ℕ) (refusal : ℕ) (is : refusal ≡ input_refusal bs) where
-  pub input-refused : (refusal ≡ 0 → ⊥) → input_text bs ≡ call_text 0 refusal 0 [] ++ []
+  pub input_refused : (refusal ≡ 0 → ⊥) → input_text bs ≡ call_text 0 refusal 0 [] ++ []
   unfolding input_text
-  input-refused h = rw (sym is, ne_eqb refusal 0 h) (sym (append-nil (call_text 0 refusal 0 [])))
+  input_refused h = rw (sym is, ne_eqb refusal 0 h) (sym (append-nil (call_text 0 refusal 0 [])))
 
-  pub input-accepted : refusal ≡ 0 → input_text bs ≡ run_text (input_words bs)
+  pub input_accepted : refusal ≡ 0 → input_text bs ≡ run_text (input_words bs)
   unfolding input_text
-  input-accepted h = rw (sym is, eq-eqb refusal 0 h)
+  input_accepted h = rw (sym is, eq-eqb refusal 0 h)

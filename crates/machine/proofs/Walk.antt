@@ -14,16 +14,16 @@ use Rattle.machine.specs.State.{probability_at, target_at, walk, sample_state}
 use Rattle.machine.specs.declared.state.Next.TheVariants.{State, Nothing}
 
 module _ (ts : List ℕ) (i end : ℕ) (sum draw : Float) where
-  pub walk-on : i < end → lt draw (add binary32 sum (probability_at ts i)) ≡ false →
+  pub walk_on : i < end → lt draw (add binary32 sum (probability_at ts i)) ≡ false →
       walk ts i (end - i) sum draw ≡
       walk ts (i + 1) (end - (i + 1)) (add binary32 sum (probability_at ts i)) draw
   unfolding walk
-  walk-on h e = let one : end - i ≡ suc (end - (i + 1)) = omega arith in rw one (simp e)
+  walk_on h e = let one : end - i ≡ suc (end - (i + 1)) = omega arith in rw one (simp e)
 
-  pub walk-stops : i < end → lt draw (add binary32 sum (probability_at ts i)) ≡ true →
+  pub walk_stops : i < end → lt draw (add binary32 sum (probability_at ts i)) ≡ true →
       walk ts i (end - i) sum draw ≡ State (target_at ts i)
   unfolding walk
-  walk-stops h e = let one : end - i ≡ suc (end - (i + 1)) = omega arith in rw one (simp e)
+  walk_stops h e = let one : end - i ≡ suc (end - (i + 1)) = omega arith in rw one (simp e)
 
   pub walk_ends : end ≤ i → walk ts i (end - i) sum draw ≡ Nothing
   unfolding walk
@@ -35,7 +35,7 @@ module _ (ts : List ℕ) (first count : ℕ) (draw : Float) where
   unfolding sample_state
   row_within h = rw (le-leb _ _ h)
 
-  pub row-beyond : length ts < (first + count) * transition_words →
+  pub row_beyond : length ts < (first + count) * transition_words →
       sample_state ts first count draw ≡ Nothing
   unfolding sample_state
-  row-beyond h = rw (lt-leb _ _ h)
+  row_beyond h = rw (lt-leb _ _ h)

@@ -68,12 +68,12 @@ module _ (marks : List ℕ) (m : ℕ) (fits : m < length marks * 64) where
   unfolding is_marked marked
   in-word k p = rw (p, get_or-set_same marks (m / 64) (bit_or (get_or marks (m / 64) 0) (2 ^ (m % 64))) 0 (omega arith))
 
-  pub mark-same : is_marked (marked marks m) m ≡ true
-  mark-same = in-word m refl ∙ rw (set_same (get_or marks (m / 64) 0) (m % 64))
+  pub mark_same : is_marked (marked marks m) m ≡ true
+  mark_same = in-word m refl ∙ rw (set_same (get_or marks (m / 64) 0) (m % 64))
 
-  pub mark-other : (k : ℕ) → (k ≡ m → ⊥) → is_marked (marked marks m) k ≡ is_marked marks k
+  pub mark_other : (k : ℕ) → (k ≡ m → ⊥) → is_marked (marked marks m) k ≡ is_marked marks k
   unfolding is_marked marked
-  mark-other k h = near (eqb (k / 64) (m / 64)) refl
+  mark_other k h = near (eqb (k / 64) (m / 64)) refl
     where
       near : (b : Bool) → eqb (k / 64) (m / 64) ≡ b → is_marked (marked marks m) k ≡ is_marked marks k
       near false e = rw (get_or-set_other marks (m / 64) (k / 64) (bit_or (get_or marks (m / 64) 0) (2 ^ (m % 64))) 0 (eqb-false (k / 64) (m / 64) e))

@@ -11,7 +11,7 @@ use lib.Ieee.{Float, binary32, of_bits, add}
 use Rattle.machine.specs.State.{target_at, probability_at}
 use Rattle.rows.specs.First.{or_else, first_refusal}
 use Rattle.rows.specs.Row.{transition_refusal, seen_in, seen_before, sum_from, sum_refusal, row_refusal, pair_refusal}
-use Rattle.rows.specs.First.Laws.{second, former, first_on, first-here, first-end}
+use Rattle.rows.specs.First.Laws.{second, former, first_on, first_here, first_end}
 
 -- the refusal of transition i of a row that begins at `first`
 abbrev pub at : List ℕ → ℕ → ℕ → ℕ → ℕ
@@ -34,13 +34,13 @@ module _ (ts : List ℕ) (n first e i : ℕ) (sum : Float) where
   unfolding rest
   row_on h p = rw (first_on (at ts n first) e i h p, sum-on h)
 
-  pub row-stops : i < e → (at ts n first i ≡ 0 → ⊥) → rest ts n first e i sum ≡ at ts n first i
+  pub row_stops : i < e → (at ts n first i ≡ 0 → ⊥) → rest ts n first e i sum ≡ at ts n first i
   unfolding rest
-  row-stops h p = rw (first-here (at ts n first) e i h p) (former _ p)
+  row_stops h p = rw (first_here (at ts n first) e i h p) (former _ p)
 
   pub row_ends : e ≤ i → rest ts n first e i sum ≡ sum_refusal sum
   unfolding rest sum_from
-  row_ends h = let none : e - i ≡ zero = omega arith in rw (first-end (at ts n first) e i h, none) (second refl)
+  row_ends h = let none : e - i ≡ zero = omega arith in rw (first_end (at ts n first) e i h, none) (second refl)
 
 -- ---- a row of one transition or two: no target stands before the first, and one before the second
 module _ (ts : List ℕ) (n first e : ℕ) (some : first < e) where
@@ -61,11 +61,11 @@ module _ (ts : List ℕ) (n first e : ℕ) (some : first < e) where
   unfolding seen_in
   one-before = let k : first + 1 - first ≡ suc zero = omega arith in rw (k, or_false (eqb (target_at ts first) (target_at ts (first + 1))))
 
-  pub there-is : (a b x : ℕ) → a ≡ target_at ts first → b ≡ target_at ts (first + 1) → x ≡ transition_refusal ts n (first + 1) (eqb a b) → x ≡ there
-  there-is a b x p q is = rw (sym p, sym q) is
+  pub there_is : (a b x : ℕ) → a ≡ target_at ts first → b ≡ target_at ts (first + 1) → x ≡ transition_refusal ts n (first + 1) (eqb a b) → x ≡ there
+  there_is a b x p q is = rw (sym p, sym q) is
 
   pub first_stops : (here ≡ 0 → ⊥) → here ≡ row_refusal ts n first (e - first)
-  first_stops p = sym (row_starts ts n first e ∙ row-stops ts n first e first _ some (λ z. p (sym none_before ∙ z)) ∙ none_before)
+  first_stops p = sym (row_starts ts n first e ∙ row_stops ts n first e first _ some (λ z. p (sym none_before ∙ z)) ∙ none_before)
 
   -- behind the first
   past_first : here ≡ 0 → row_refusal ts n first (e - first) ≡ rest ts n first e (first + 1) one
@@ -75,8 +75,8 @@ module _ (ts : List ℕ) (n first e : ℕ) (some : first < e) where
       → sum_refusal (add binary32 (of_bits binary32 0) p) ≡ row_refusal ts n first (e - first)
   no_second none end p is = rw is (sym (past_first none ∙ row_ends ts n first e (first + 1) _ (omega (arith, end))))
 
-  pub second-stops : here ≡ 0 → first + 1 < e → (there ≡ 0 → ⊥) → there ≡ row_refusal ts n first (e - first)
-  second-stops p more q = sym (past_first p ∙ row-stops ts n first e (first + 1) _ more (λ z. q (sym one-before ∙ z)) ∙ one-before)
+  pub second_stops : here ≡ 0 → first + 1 < e → (there ≡ 0 → ⊥) → there ≡ row_refusal ts n first (e - first)
+  second_stops p more q = sym (past_first p ∙ row_stops ts n first e (first + 1) _ more (λ z. q (sym one-before ∙ z)) ∙ one-before)
 
   pub no_third : here ≡ 0 → first + 1 < e → e ≤ first + 2 → there ≡ 0 → (p q : Float) → p ≡ probability_at ts first → q ≡ probability_at ts (first + 1)
       → sum_refusal (add binary32 (add binary32 (of_bits binary32 0) p) q) ≡ row_refusal ts n first (e - first)

@@ -13,7 +13,7 @@ use Rattle.machine.specs.Constants.{state_end, state_signal}
 use Rattle.machine.specs.State.{target_at}
 use Rattle.rows.specs.Row.{is_target, probability_word, transition_refusal, seen_in}
 use Rattle.rows.specs.Marks.{mark_of, is_marked, marked}
-use Rattle.rows.proofs.Bits.{mark-same, mark-other}
+use Rattle.rows.proofs.Bits.{mark_same, mark_other}
 use Rattle.rows.proofs.Rows.{at}
 
 -- ---- looking back, from j up to e
@@ -22,8 +22,8 @@ module _ (ts : List ℕ) (target e j : ℕ) where
   unfolding seen_in
   turn h = let one : e - j ≡ suc (e - (j + 1)) = omega arith in rw one
 
-  pub seen-on : j < e → (target_at ts j ≡ target → ⊥) → seen_in ts target (e - j) j ≡ seen_in ts target (e - (j + 1)) (j + 1)
-  seen-on h p = turn h ∙ rw (ne_eqb _ _ p)
+  pub seen_on : j < e → (target_at ts j ≡ target → ⊥) → seen_in ts target (e - j) j ≡ seen_in ts target (e - (j + 1)) (j + 1)
+  seen_on h p = turn h ∙ rw (ne_eqb _ _ p)
 
   pub seen_here : j < e → target_at ts j ≡ target → seen_in ts target (e - j) j ≡ true
   seen_here h p = turn h ∙ rw (eq-eqb _ _ p)
@@ -104,28 +104,28 @@ met_none marks ts n first clear target t =
 
 module _ (marks ts : List ℕ) (n first i : ℕ) (met : Met marks ts n first i) where
   -- the transition's refusal, with its mark for what was seen
-  pub by-mark : transition_refusal ts n i (is_marked marks (mark_of n (target_at ts i))) ≡ at ts n first i
+  pub by_mark : transition_refusal ts n i (is_marked marks (mark_of n (target_at ts i))) ≡ at ts n first i
   unfolding transition_refusal
-  by-mark = either (is_target n (target_at ts i)) refl
+  by_mark = either (is_target n (target_at ts i)) refl
     where
       either : (b : Bool) → is_target n (target_at ts i) ≡ b →
           transition_refusal ts n i (is_marked marks (mark_of n (target_at ts i))) ≡ at ts n first i
       either true p = rw (met (target_at ts i) p)
       either false p = rw p
 
-  pub met-on : first ≤ i → mark_of n (target_at ts i) < length marks * 64 → is_target n (target_at ts i) ≡ true →
+  pub met_on : first ≤ i → mark_of n (target_at ts i) < length marks * 64 → is_target n (target_at ts i) ≡ true →
       Met (marked marks (mark_of n (target_at ts i))) ts n first (i + 1)
-  met-on h fits here target t =
+  met_on h fits here target t =
       same (eqb (target_at ts i) target) refl ∙ sym (seen_last ts target first i h)
     where
       same : (b : Bool) → eqb (target_at ts i) target ≡ b →
           is_marked (marked marks (mark_of n (target_at ts i))) (mark_of n target) ≡ (seen_in ts target (i - first) first || eqb (target_at ts i) target)
       same true p =
           rw (p, ← eqb-true (target_at ts i) target p)
-          (mark-same marks (mark_of n (target_at ts i)) fits ∙ sym (or-true (seen_in ts (target_at ts i) (i - first) first)))
+          (mark_same marks (mark_of n (target_at ts i)) fits ∙ sym (or-true (seen_in ts (target_at ts i) (i - first) first)))
       same false p =
           rw p
-          (mark-other marks (mark_of n (target_at ts i)) fits (mark_of n target)
+          (mark_other marks (mark_of n (target_at ts i)) fits (mark_of n target)
           (λ q. eqb-false (target_at ts i) target p (sym (one_mark n target (target_at ts i) t here q)))
           ∙ met target t ∙ sym (or_false (seen_in ts target (i - first) first)))
 

@@ -11,7 +11,7 @@ use Rattle.lines.specs.Lines.{table_of}
 use Rattle.sheet.specs.Sheet.{bytes_of, sheet_of}
 use Rattle.sheet.specs.Writer.{whole_rows, write_refusal, over, Written, sheet_write, Writes}
 use Rattle.sheet.specs.Reader.{machine_lines, state_lines, transition_lines, behind_machines, behind_states, form_of, room_for, read_refusal, no_rows, Read, sheet_read, Reads}
-use Rattle.sheet.specs.RoundTrip.Form.{length_machines, length_states, length_transitions}
+use Rattle.sheet.specs.RoundTrip.Form.{length-machines, length-states, length-transitions}
 use Rattle.sheet.specs.RoundTrip.Calls.{reads}
 use Rattle.sheet.specs.declared.SheetRows.{SheetRows}
 use Rattle.sheet.specs.declared.SheetBytes.{SheetBytes}
@@ -59,20 +59,20 @@ module _ (sheet m s t : List ℕ) where
   unfolding read_refusal room_for
   accepted rows is w f = rw (← is, w, f)
 
-  pub read-rows : (rows : Form) (x y z : List ℕ) → rows ≡ form_of sheet → rows.whole ≡ true
+  pub read_rows : (rows : Form) (x y z : List ℕ) → rows ≡ form_of sheet → rows.whole ≡ true
       → room_for rows (length m) (length s) (length t) ≡ true
       → x ≡ table_of machine_words rows.machines sheet ++ drop (machine_words * rows.machines) m
       → y ≡ table_of state_words rows.states (behind_machines sheet) ++ drop (state_words * rows.states) s
       → z ≡ table_of transition_words rows.transitions (behind_states sheet) ++ drop (transition_words * rows.transitions) t
       → Reads sheet m s t (record { refusal = 0; machines = rows.machines; states = rows.states; transitions = rows.transitions }) x y z
   unfolding form_of
-  read-rows rows x y z is w f ex ey ez =
+  read_rows rows x y z is w f ex ey ez =
       let a : rows.machines ≡ machine_lines sheet = ap (λ (q : Form). q.machines) is in
       let b : rows.states ≡ state_lines sheet = ap (λ (q : Form). q.states) is in
       let c : rows.transitions ≡ transition_lines sheet = ap (λ (q : Form). q.transitions) is in
       leaves _ x y z
       (reads sheet m s t (accepted rows is w f)
-      ∙ rw (ex, ey, ez, a, b, c, length_machines sheet, length_states sheet, length_transitions sheet))
+      ∙ rw (ex, ey, ez, a, b, c, length-machines sheet, length-states sheet, length-transitions sheet))
 
 -- ---- the writer
 
@@ -85,17 +85,17 @@ module _ (m s t sheet : List ℕ) where
       → leb (length (sheet_of m s t)) (length sheet) ≡ b
   room b e = rw (length-sheet m s t) (sym e)
 
-  pub not-rows : (b : Bool) → b ≡ whole_rows (length m) (length s) (length t) → b ≡ false
+  pub not_rows : (b : Bool) → b ≡ whole_rows (length m) (length s) (length t) → b ≡ false
       → Writes m s t sheet (record { refusal = 3; bytes = 0 }) sheet
   unfolding sheet_write write_refusal whole_rows
-  not-rows b e w = writes _ _ (rw (← e, w))
+  not_rows b e w = writes _ _ (rw (← e, w))
 
-  pub no-space : (b d : Bool) → b ≡ whole_rows (length m) (length s) (length t) → b ≡ true
+  pub no_space : (b d : Bool) → b ≡ whole_rows (length m) (length s) (length t) → b ≡ true
       → d ≡ leb (bytes_of (length m / machine_words) (length s / state_words) (length t / transition_words)) (length sheet)
       → d ≡ false
       → Writes m s t sheet (record { refusal = 23; bytes = 0 }) sheet
   unfolding sheet_write write_refusal whole_rows
-  no-space b d e w f g = writes _ _ (rw (← e, w, room d f, g))
+  no_space b d e w f g = writes _ _ (rw (← e, w, room d f, g))
 
   pub written_out : (b d : Bool) (r : ℕ) (x : List ℕ) → b ≡ whole_rows (length m) (length s) (length t) → b ≡ true
       → d ≡ leb (bytes_of (length m / machine_words) (length s / state_words) (length t / transition_words)) (length sheet)

@@ -73,16 +73,16 @@ module _ (sheet : List ℕ) (rows : Form) (is : rows ≡ form_of sheet) where
   unfolding form_of
   state-lines = ap (λ (x : Form). x.states) is
 
-  pub states-at : from sheet (line_bytes machine_words * rows.machines) ≡ behind_machines sheet
+  pub states_at_lem : from sheet (line_bytes machine_words * rows.machines) ≡ behind_machines sheet
   unfolding behind_machines behind
-  states-at =
+  states_at_lem =
       to_end sheet (line_bytes machine_words * rows.machines)
       ∙ ap (λ (n : ℕ). drop (line_bytes machine_words * n) sheet) machine-lines
 
-  pub transitions-at :
+  pub transitions_at_lem :
       from sheet (line_bytes machine_words * rows.machines + line_bytes state_words * rows.states) ≡ behind_states sheet
   unfolding behind_states behind_machines behind
-  transitions-at =
+  transitions_at_lem =
       to_end sheet (line_bytes machine_words * rows.machines + line_bytes state_words * rows.states)
       ∙ sym (drop-drop (line_bytes state_words * rows.states) (line_bytes machine_words * rows.machines) sheet)
       ∙ rw (machine-lines, state-lines)

@@ -9,18 +9,18 @@ use Rattle.sheet.specs.Sheet.{sheet_of}
 use Rattle.sheet.specs.Writer.{over, sheet_write}
 use Rattle.sheet.specs.Reader.{machine_lines, state_lines, transition_lines, form_of, Read, sheet_read}
 pub use Rattle.cells.specs.RoundTrip.U64.{Words}
-pub use Form.{machines_of, states_of, transitions_of, sheet-is-whole, whole_is_sheet, tables_are_sound}
+pub use Form.{machines_of, states_of, transitions_of, sheet_is_whole, whole_is_sheet, tables_are_sound}
 use Form.{Sound}
-use Form.{machines-counted, states-counted, transitions-counted, machines-read, states-read, transitions-read}
-use Form.{length_machines, length_states, length_transitions}
-use Calls.{write-accepted, writes, read-accepted, form-passed, not-refused-read, reads}
+use Form.{machines_counted, states_counted, transitions_counted, machines_read, states_read, transitions_read}
+use Form.{length-machines, length-states, length-transitions}
+use Calls.{write_accepted, writes, read_accepted, form_passed, not_refused_read, reads}
 
 -- THEOREM: the form passes exactly for the sheets of tables of whole rows of words.
 pub whole_exactly : (sheet : List ℕ) → ((form_of sheet).whole ≡ true)
     ↔ ((m : List ℕ) × (s : List ℕ) × (t : List ℕ) × Sound m s t × (sheet_of m s t ≡ sheet))
 whole_exactly sheet = (
   λ h. (machines_of sheet, states_of sheet, transitions_of sheet, tables_are_sound sheet, whole_is_sheet sheet h),
-  λ x. rw (← x.4, sheet-is-whole x.0 x.1 x.2 x.3),
+  λ x. rw (← x.4, sheet_is_whole x.0 x.1 x.2 x.3),
 )
 
 -- these tables, read into m, s and t: their rows are counted, and what lies behind them stays
@@ -44,16 +44,16 @@ reads_sheet : (machines states transitions m s t : List ℕ) → Sound machines 
     ≡ read_as machines states transitions m s t
 reads_sheet machines states transitions m s t k lm ls lt =
     let sheet = sheet_of machines states transitions in
-    let f = sheet-is-whole machines states transitions k in
-    let r = not-refused-read sheet m s t (rw f) (rw f (omega arith)) (rw f (omega arith)) (rw f (omega arith)) in
+    let f = sheet_is_whole machines states transitions k in
+    let r = not_refused_read sheet m s t (rw f) (rw f (omega arith)) (rw f (omega arith)) (rw f (omega arith)) in
     rw (
       reads sheet m s t r,
-      machines-read machines states transitions k,
-      states-read machines states transitions k,
-      transitions-read machines states transitions k,
-      machines-counted machines states transitions k,
-      states-counted machines states transitions k,
-      transitions-counted machines states transitions k,
+      machines_read machines states transitions k,
+      states_read machines states transitions k,
+      transitions_read machines states transitions k,
+      machines_counted machines states transitions k,
+      states_counted machines states transitions k,
+      transitions_counted machines states transitions k,
     )
 
 -- THEOREM: a written sheet, given room, reads back to the same tables.
@@ -66,7 +66,7 @@ pub written_reads_back : (machines states transitions sheet m s t : List ℕ)
     sheet_read (take W.answer.bytes W.sheet) m s t)
     ≡ read_as machines states transitions m s t
 written_reads_back machines states transitions sheet m s t wm ws wt h lm ls lt =
-    let a = write-accepted machines states transitions sheet h wm ws wt in
+    let a = write_accepted machines states transitions sheet h wm ws wt in
     let text = sheet_of machines states transitions in
     rw (writes machines states transitions sheet a.0 a.1, take-append_seam text (drop (length text) sheet))
     (reads_sheet machines states transitions m s t a.0 lm ls lt)
@@ -83,17 +83,17 @@ pub accepted_is_written : (sheet m s t out : List ℕ)
     out)
     ≡ record { answer = record { refusal = 0; bytes = length sheet }; sheet = over sheet out }
 accepted_is_written sheet m s t out h l =
-    let r = read-accepted sheet m s t h in
+    let r = read_accepted sheet m s t h in
     let M = machines_of sheet in
     let S = states_of sheet in
     let T = transitions_of sheet in
-    let e : sheet_of M S T ≡ sheet = whole_is_sheet sheet (form-passed sheet m s t r) in
+    let e : sheet_of M S T ≡ sheet = whole_is_sheet sheet (form_passed sheet m s t r) in
     let w = writes M S T out (tables_are_sound sheet) (rw e l) in
     rw (
       reads sheet m s t r,
-      take_at M (drop (length M) m) (machine_words * machine_lines sheet) (length_machines sheet),
-      take_at S (drop (length S) s) (state_words * state_lines sheet) (length_states sheet),
-      take_at T (drop (length T) t) (transition_words * transition_lines sheet) (length_transitions sheet),
+      take_at M (drop (length M) m) (machine_words * machine_lines sheet) (length-machines sheet),
+      take_at S (drop (length S) s) (state_words * state_lines sheet) (length-states sheet),
+      take_at T (drop (length T) t) (transition_words * transition_lines sheet) (length-transitions sheet),
       w,
       e,
     )

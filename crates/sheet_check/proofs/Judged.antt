@@ -14,7 +14,7 @@ use Rattle.columns.specs.Line.{start, cell, feed}
 use Rattle.sheet.specs.Reader.{read_refusal, Read, sheet_read, Reads}
 use Rattle.sheet.specs.Writer.{over}
 use Rattle.sheet.specs.RoundTrip.Calls.{reads}
-use Rattle.sheet.specs.RoundTrip.Form.{machines_of, states_of, transitions_of, length_machines, length_states, length_transitions}
+use Rattle.sheet.specs.RoundTrip.Form.{machines_of, states_of, transitions_of, length-machines, length-states, length-transitions}
 use Rattle.sheet.specs.declared.SheetRows.{SheetRows}
 use Rattle.sheet_check.specs.Verdict.{verdict_line, judged_line, line_length}
 
@@ -51,16 +51,16 @@ module _ (sheet m s t : List ℕ) where
       by-refusal : (b : Bool) → eqb (read_refusal sheet m s t) 0 ≡ b → InsideOf (sheet_read sheet m s t)
       by-refusal true e =
           subst InsideOf (sym (reads sheet m s t (eqb-true _ 0 e))) (
-            longer (machines_of sheet) m _ (length_machines sheet),
-            longer (states_of sheet) s _ (length_states sheet),
-            longer (transitions_of sheet) t _ (length_transitions sheet),
+            longer (machines_of sheet) m _ (length-machines sheet),
+            longer (states_of sheet) s _ (length-states sheet),
+            longer (transitions_of sheet) t _ (length-transitions sheet),
           )
       by-refusal false e = rw e (omega arith, omega arith, omega arith)
 
-  pub read-inside : (r : SheetRows) (x y z : List ℕ)
+  pub read_inside : (r : SheetRows) (x y z : List ℕ)
       → Reads sheet m s t r x y z
       → Inside r x y z
-  read-inside r x y z e = rw (e.0, e.1, e.2, e.3) inside
+  read_inside r x y z e = rw (e.0, e.1, e.2, e.3) inside
 
   -- the line of what was read and judged
   pub judged : (r : SheetRows) (x y z o line : List ℕ) (refusal : ℕ)

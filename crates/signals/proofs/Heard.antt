@@ -23,7 +23,7 @@ use Rattle.steps.specs.declared.Stepped.TheVariants.{Refused, Done}
 use Rattle.steps.specs.declared.TriggerAction.{TriggerAction}
 use Rattle.events.specs.Run.{run}
 use Rattle.events.proofs.All.{bool_cases}
-use Rattle.events.proofs.Turns.{each-end, each_on}
+use Rattle.events.proofs.Turns.{each_end, each_on}
 
 -- a signal that leaves out a known machine
 pub known_is : (signal count : ℕ) → (leb 2 signal && ltb signal (2 + count)) ≡ true →
@@ -53,7 +53,7 @@ pub record Heard
 alone : (T : Tables) (D : Source Place) (k : ℕ) (o : Outcome) →
     and_then (and_then o (each (signal_turn T D 0) (k + 1 - (k + 1)) (k + 1))) (after T D 0) ≡ o
 alone T D k (stop n) = refl
-alone T D k (go x) = rw (each-end (signal_turn T D 0) (k + 1) (k + 1) x (omega arith))
+alone T D k (go x) = rw (each_end (signal_turn T D 0) (k + 1) (k + 1) x (omega arith))
 
 pub heard_all : (T : Tables) (D : Source Place) (fw : Framework) (actions : List TriggerAction) (s : Shared) →
     (s.signal_pending ≡ 0 → ⊥) →
@@ -76,8 +76,8 @@ module _ {o : Outcome} {T : Tables} {D : Source Place} {taken m end : ℕ}
     {fw : Framework} {actions : List TriggerAction} {s : Shared}
     (a : Heard o T D taken m end fw actions s) where
   module _ (h : m < end) where
-    pub heard-skip : taken ≡ m + 2 → Heard o T D taken (m + 1) end fw actions s
-    heard-skip e =
+    pub heard_skip : taken ≡ m + 2 → Heard o T D taken (m + 1) end fw actions s
+    heard_skip e =
         let out : eqb taken (2 + m) ≡ true = eq-eqb taken (2 + m) (omega arith) in
         record { is = a.is ∙ rw (each_on (signal_turn T D taken) end m (run fw actions s) h, out) }
 
@@ -85,41 +85,41 @@ module _ {o : Outcome} {T : Tables} {D : Source Place} {taken m end : ℕ}
       hears : eqb taken (2 + m) ≡ false
       hears = ne_eqb taken (2 + m) (λ q. in-turn (omega arith))
 
-      pub heard-turn : {d : Step} → signalled T D m fw actions s ≡ Done d →
+      pub heard_turn : {d : Step} → signalled T D m fw actions s ≡ Done d →
           Heard o T D taken (m + 1) end
           (with_runtime fw (set fw.runtime m d.runtime)) (set actions m d.action) d.shared
       unfolding signal_machine
-      heard-turn e = record { is = a.is ∙ rw (each_on (signal_turn T D taken) end m (run fw actions s) h, hears, e) }
+      heard_turn e = record { is = a.is ∙ rw (each_on (signal_turn T D taken) end m (run fw actions s) h, hears, e) }
 
-      pub heard-stops : {why : ℕ} → signalled T D m fw actions s ≡ Refused why → o ≡ stop why
+      pub heard_stops : {why : ℕ} → signalled T D m fw actions s ≡ Refused why → o ≡ stop why
       unfolding signal_machine
-      heard-stops e = a.is ∙ rw (each_on (signal_turn T D taken) end m (run fw actions s) h, hears, e)
+      heard_stops e = a.is ∙ rw (each_on (signal_turn T D taken) end m (run fw actions s) h, hears, e)
 
   module _ (h : end ≤ m) where
     ends : each (signal_turn T D taken) (end - m) m (run fw actions s) ≡ go (run fw actions s)
-    ends = each-end (signal_turn T D taken) end m (run fw actions s) h
+    ends = each_end (signal_turn T D taken) end m (run fw actions s) h
 
-    pub heard-last : taken ≡ 0 → o ≡ go (run fw actions s)
-    heard-last e = a.is ∙ rw (ends, eq-eqb _ _ e)
+    pub heard_last : taken ≡ 0 → o ≡ go (run fw actions s)
+    heard_last e = a.is ∙ rw (ends, eq-eqb _ _ e)
 
     -- no other signal was raised
-    pub heard-quiet : s.signal_pending ≡ 0 → o ≡ go (run fw actions s)
-    heard-quiet e =
+    pub heard_quiet : s.signal_pending ≡ 0 → o ≡ go (run fw actions s)
+    heard_quiet e =
         ⊎_elim
-        (λ last. heard-last (eqb-true taken 0 last))
+        (λ last. heard_last (eqb-true taken 0 last))
         (λ (more : eqb taken 0 ≡ false). a.is ∙ rw (ends, more) (rw (eq-eqb s.signal_pending 0 e)))
         (bool_cases (eqb taken 0))
 
     module _ (raised : s.signal_pending ≡ 0 → ⊥) (more : taken ≡ 0 → ⊥) where
       -- with no known machine left out, it is dropped
-      pub heard-dropped : (leb 2 taken && ltb taken (2 + num_machines fw)) ≡ false →
+      pub heard_dropped : (leb 2 taken && ltb taken (2 + num_machines fw)) ≡ false →
           o ≡ go (run fw actions (with_signal s 0))
-      heard-dropped e = a.is ∙ rw (ends, ne_eqb _ _ more, ne_eqb _ _ raised, e)
+      heard_dropped e = a.is ∙ rw (ends, ne_eqb _ _ more, ne_eqb _ _ raised, e)
 
       -- else that machine hears it
-      pub heard-again : (leb 2 taken && ltb taken (2 + num_machines fw)) ≡ true →
+      pub heard_again : (leb 2 taken && ltb taken (2 + num_machines fw)) ≡ true →
           Heard o T D 0 (taken - 2) (taken - 2 + 1) fw actions (with_signal s 0)
-      heard-again e =
+      heard_again e =
           let k : ℕ = taken - 2 in
           let x : Run = run fw actions (with_signal s 0) in
           let last : eqb 0 (2 + k) ≡ false = ne_eqb 0 (2 + k) (λ q. omega arith) in

@@ -72,8 +72,8 @@ by_told D tells = record {
 
 module _ (R : ℕ → Type 0) where
   -- two tapes by 16 and by 17
-  pub by-tapes : R 16 → R 17 → (chances values : List Float) → Refuses R (tapes chances values)
-  by-tapes ended unfit chances values = record {
+  pub by_tapes : R 16 → R 17 → (chances values : List Float) → Refuses R (tapes chances values)
+  by_tapes ended unfit chances values = record {
     chance = λ at. on fit_chance chances at.chance_at (place (at.chance_at + 1) at.value_at) at;
     uniform = λ low high at.
         on (fit_uniform low high) values at.value_at (place at.chance_at (at.value_at + 1)) at;
@@ -85,8 +85,8 @@ module _ (R : ℕ → Type 0) where
           either (DrawOk R) (ltb i (length tape)) _ _ (either (DrawOk R) (fit (get_or tape i nan)) _ _ tt unfit) ended
 
   -- words by 16
-  pub by-words : R 16 → (ws : List ℕ) → Refuses R (words ws)
-  by-words ended ws = record {
+  pub by_words : R 16 → (ws : List ℕ) → Refuses R (words ws)
+  by_words ended ws = record {
     chance = λ at. either (DrawOk R) (ltb at.value_at (length ws)) _ _ tt ended;
     uniform = λ low high at. tried low high (drop at.value_at ws) at.chance_at at.value_at;
     outside = λ at. ended;
@@ -162,9 +162,9 @@ module _ (R : ℕ → Type 0) (D : Source Place) (refuses : Refuses R D) where
   at_most m a = omega arith
 
   -- ---- a chance
-  pub chance-ok : (at : Place) → ChanceOk R (chance_draw D.chance at)
+  pub chance_ok : (at : Place) → ChanceOk R (chance_draw D.chance at)
   unfolding chance_draw
-  chance-ok at = go (D.chance at) (refuses.chance at)
+  chance_ok at = go (D.chance at) (refuses.chance at)
     where
       go : (d : Drawn Place Float) → DrawOk R d → ChanceOk R (chance_drawn d)
       go (no n at) h = h
@@ -186,9 +186,9 @@ module _ (R : ℕ → Type 0) (D : Source Place) (refuses : Refuses R D) where
         (whole-ok (λ v. v ≤ max_sampled_duration) (λ x. min (round_away x) max_sampled_duration)
         (λ x. at_most max_sampled_duration (round_away x)) (dist_at row duration) at) (omega arith)
 
-    pub limit-ok : (at : Place) → WholeOk R (λ v. Unit) (sample_limit row D.values at)
+    pub limit_ok : (at : Place) → WholeOk R (λ v. Unit) (sample_limit row D.values at)
     unfolding sample_limit
-    limit-ok at =
+    limit_ok at =
         either (WholeOk R (λ v. Unit)) (has_limit row) _ _ (whole-ok (λ v. Unit) round_away (λ x. tt) (dist_at row limit) at) tt
 
     value-ok : (k : ℕ) (at : Place) → WholeOk R (λ v. Unit) (sample_value row k D.values at)
@@ -198,9 +198,9 @@ module _ (R : ℕ → Type 0) (D : Source Place) (refuses : Refuses R D) where
         (whole-ok (λ v. Unit) (to_unsigned 64) (λ x. tt) (dist_at row (k + 2)) at)
 
     -- ---- a scheduled action
-    pub schedule-ok : (at : Place) → ScheduledOk R row (schedule_action row D.values at)
+    pub schedule_ok : (at : Place) → ScheduledOk R row (schedule_action row D.values at)
     unfolding schedule_action
-    schedule-ok at = timed (sample_timeout row D.values at) (timeout-ok at)
+    schedule_ok at = timed (sample_timeout row D.values at) (timeout-ok at)
       where
         lasting : (t : ℕ) → t ≤ max_sampled_timeout → (x : WholeDrawn) → WholeOk R (λ v. v ≤ max_sampled_duration) x
             → ScheduledOk R row (with_duration row t x)
@@ -242,10 +242,10 @@ module _ (R : ℕ → Type 0) (D : Source Place) (refuses : Refuses R D) where
       next (Refused n) o g = o
       next (At u) o g = g u
 
-  pub counters-ok : (row : List ℕ) (old : Counters) (zeroed : Zeroed) (at : Place)
+  pub counters_ok : (row : List ℕ) (old : Counters) (zeroed : Zeroed) (at : Place)
       → TalliedOk R (update_counters row D.values old zeroed at)
   unfolding update_counters tally_a tally_b
-  counters-ok row old zeroed at =
+  counters_ok row old zeroed at =
       tally-each-ok (counter_steps row D.values old) (
         λ t. one_ok row counter_a (with_a t) t.place old.counter_a old.counter_b t.zeroed.counter_a,
         (λ t. one_ok row counter_b (with_b t) t.place old.counter_b old.counter_a t.zeroed.counter_b, tt),

@@ -9,11 +9,11 @@ use Rattle.machine.specs.declared.source.Place.{Place}
 use Rattle.steps.specs.Events.{Tables, num_machines, no_runtime, runtime_at}
 use Rattle.steps.specs.Framework.{has_ended, ended_in, fits_tables, opening, trigger_events, batch, all_machines_ended}
 use Rattle.steps.specs.Words.{Lent, source_of, lent_tells, opening_on, batch_on}
-use Rattle.steps.specs.Runs.{ok_any, opening-ok, batch-ok}
+use Rattle.steps.specs.Runs.{ok_any, opening_ok, batch_ok}
 use Rattle.steps.specs.Draws.{by_any, by_told}
 use Rattle.steps.specs.Targets.{Passed}
-use Rattle.steps.specs.Refusals.{run-stops}
-use Rattle.steps.specs.Fits.{fits-says, few, batch_fits, Fresh, opens_fresh, none_ended, opening_fits, never_18_on}
+use Rattle.steps.specs.Refusals.{run_stops}
+use Rattle.steps.specs.Fits.{fits_says, few, batch_fits, Fresh, opens_fresh, none_ended, opening_fits, never_18_on}
 use Rattle.steps.specs.Budget.{Call, refusal_of, framework_of}
 use Rattle.steps.specs.Budget.Kinds.{opening_on_lem, accepted_opening, batch_on_lem, accepted_batch, refused_batch}
 use Rattle.steps.specs.declared.MachineRuntime.{MachineRuntime}
@@ -28,7 +28,7 @@ pub opening_right : (tables : Tables) (padding blocking : Float) (time : ℕ) (D
     → Right (opening tables padding blocking time D).framework
 unfolding ended_in
 opening_right tables padding blocking time D =
-    opening-ok (λ n. Unit) (Fresh tables) (λ o. Right o.framework) tables padding blocking time D
+    opening_ok (λ n. Unit) (Fresh tables) (λ o. Right o.framework) tables padding blocking time D
     (λ e. opens_fresh (λ n. Unit) tables padding blocking time D (by_any D)) (λ e. refl) (λ e n r. refl)
     (λ e x f. f.ended ∙ sym (none_ended x.framework.runtime (num_machines x.framework) f.states))
 
@@ -36,14 +36,14 @@ opening_right tables padding blocking time D =
 pub accepted_right : (fw : Framework) (tables : Tables) (time : ℕ) (es : List ℕ) (D : Source Place) (out : List ℕ) → Telling D
     → (batch fw tables time es D out).answer.refusal ≡ 0 → Right (batch fw tables time es D out).answer.framework
 accepted_right fw tables time es D out tells =
-    batch-ok (λ n. 0 < n) (λ x. Unit) (λ b. b.answer.refusal ≡ 0 → Right b.answer.framework) fw tables time es D out
-    (λ e. run-stops (λ n. 0 < n) tables D (by_told D tells) time es fw) (λ e z. absurd (e z))
+    batch_ok (λ n. 0 < n) (λ x. Unit) (λ b. b.answer.refusal ≡ 0 → Right b.answer.framework) fw tables time es D out
+    (λ e. run_stops (λ n. 0 < n) tables D (by_told D tells) time es fw) (λ e z. absurd (e z))
     (λ e n w z. absurd (lt_irrefl 0 (subst (λ (j : ℕ). 0 < j) z w))) (λ e x q z. refl)
 
 pub batch_right : (fw : Framework) (tables : Tables) (time : ℕ) (es : List ℕ) (D : Source Place) (out : List ℕ) → Right fw
     → Right (batch fw tables time es D out).answer.framework
 batch_right fw tables time es D out h =
-    batch-ok (λ n. Unit) (λ x. Unit) (λ b. Right b.answer.framework) fw tables time es D out
+    batch_ok (λ n. Unit) (λ x. Unit) (λ b. Right b.answer.framework) fw tables time es D out
     (λ e. ok_any (trigger_events tables D time es fw)) (λ e. h) (λ e n r. h) (λ e x q. refl)
 
 -- ---- THEOREM: the number is right after any opening and any list of batches, refused ones too, whatever they are lent. Each draws from two
@@ -140,7 +140,7 @@ all_ended_is fw right = ap (λ (n : ℕ). eqb n (num_machines fw)) right ∙ all
 pub all_ended_fits : (tables : Tables) (fw : Framework) → Passed tables → T (fits_tables tables fw)
     → all_machines_ended fw ≡ every_ended fw (num_machines fw)
 all_ended_fits tables fw valid fits =
-    let f = fits-says tables fw fits in
+    let f = fits_says tables fw fits in
     all_ended_is fw (f.ended ∙ ap (ended_in fw.runtime) (num fw.machines _ f.machines (few tables valid)))
   where
     num : (m n : ℕ) → m ≡ n → n ≤ machine_max → n ≡ min m machine_max

@@ -11,18 +11,18 @@ use Rattle.machine.specs.Words.{words}
 use Rattle.machine.specs.declared.source.Place.{Place}
 use Rattle.rows.specs.First.{or_else}
 use Rattle.tables.specs.Machine.{tables_refusal}
-use Rattle.tables.specs.Valid.Laws.{zero-valid}
+use Rattle.tables.specs.Valid.Laws.{zero_valid}
 use Rattle.steps.specs.Limits.{below_action_limits}
 use Rattle.steps.specs.Transition.{no_action, raise, transition}
 use Rattle.steps.specs.Events.{Tables, Run, Outcome, stop, go, num_machines, no_runtime, runtime_at, env_of, stored, limit_falls, turn, machine_turn, signal_machine}
 use Rattle.steps.specs.Framework.{rows_in, states_fit, has_ended, ended_in, fits_tables, events_fit, open_run, open_refusal, opening, trigger_events, batch_refusal, refused, accepted, batch}
 use Rattle.steps.specs.Words.{Lent, on_tapes, on_words, outside_refused, batch_on}
-use Rattle.steps.specs.Runs.{either, stored_all, Ok, none_of, opening-ok, batch-ok, event-kept, run-kept}
-use Rattle.steps.specs.Draws.{Refuses, by_any, by_told, by-tapes, by-words, Gives}
+use Rattle.steps.specs.Runs.{either, stored_all, Ok, none_of, opening_ok, batch_ok, event_kept, run_kept}
+use Rattle.steps.specs.Draws.{Refuses, by_any, by_told, by_tapes, by_words, Gives}
 use Rattle.steps.specs.Walk.{Alive, Closed, row_of}
-use Rattle.steps.specs.Machines.{comes_in, opening-kept, Family, member, InRun, batch-kept}
-use Rattle.steps.specs.Targets.{Inside, Passed, states_in, some-state, goes-inside, fit_states}
-use Rattle.steps.specs.Refusals.{tables_most, run-stops}
+use Rattle.steps.specs.Machines.{comes_in, opening_kept, Family, member, InRun, batch_kept}
+use Rattle.steps.specs.Targets.{Inside, Passed, states_in, some_state, goes_inside, fit_states}
+use Rattle.steps.specs.Refusals.{tables_most, run_stops}
 use Rattle.steps.specs.declared.MachineRuntime.{MachineRuntime}
 use Rattle.steps.specs.declared.Framework.{Framework}
 use Rattle.steps.specs.declared.TriggerAction.{TriggerAction}
@@ -53,9 +53,9 @@ states_fit_lem tables fw (suc n) h =
         second false b t = t
 
 module _ (tables : Tables) (fw : Framework) where
-  pub fits-says : T (fits_tables tables fw) → Fits tables fw
+  pub fits_says : T (fits_tables tables fw) → Fits tables fw
   unfolding fits_tables
-  fits-says t =
+  fits_says t =
       let a = eqb fw.machines (rows_in tables.machines) in
       let b = states_fit tables fw (rows_in tables.machines) in
       let c = ltb fw.signal_pending (2 + rows_in tables.machines) in
@@ -68,9 +68,9 @@ module _ (tables : Tables) (fw : Framework) where
         ended = eqb→eq _ _ (and_r (a && b && c) _ t);
       }
 
-  pub says-fits : Fits tables fw → T (fits_tables tables fw)
+  pub says_fits : Fits tables fw → T (fits_tables tables fw)
   unfolding fits_tables
-  says-fits f =
+  says_fits f =
       let a = eqb fw.machines (rows_in tables.machines) in
       let b = states_fit tables fw (rows_in tables.machines) in
       let c = ltb fw.signal_pending (2 + rows_in tables.machines) in
@@ -94,7 +94,7 @@ inside_in A tables = record {
 }
 
 pub few : (tables : Tables) → Passed tables → rows_in tables.machines ≤ machine_max
-few tables valid = (zero-valid tables.machines tables.states tables.transitions valid).whole.most
+few tables valid = (zero_valid tables.machines tables.states tables.transitions valid).whole.most
 
 module _ (A : TriggerAction → Type 0) (tables : Tables) (D : Source Place) (valid : Passed tables) (clears : A no_action)
     (schedules : (fw : Framework) (i : ℕ) → i < rows_in tables.machines → (r : MachineRuntime) (a : TriggerAction)
@@ -104,7 +104,7 @@ module _ (A : TriggerAction → Type 0) (tables : Tables) (D : Source Place) (va
   closed : (fw : Framework) (i : ℕ) → i < rows_in tables.machines → Closed (env_of tables D fw i) (member (inside_in A tables) i)
   closed fw i h = record {
     refuses = by_any D;
-    enters = λ r next limit v c. inr (goes-inside tables valid i h D fw r next v c);
+    enters = λ r next limit v c. inr (goes_inside tables valid i h D fw r next v c);
     ends = λ r v l. inl refl;
     falls = λ r v. v;
     counters = λ r c v. v;
@@ -116,7 +116,7 @@ module _ (A : TriggerAction → Type 0) (tables : Tables) (D : Source Place) (va
   pub run_inside : (time : ℕ) (es : List ℕ) (fw : Framework) → Fits tables fw
       → Ok (λ n. Unit) (InRun (inside_in A tables) (rows_in tables.machines)) (trigger_events tables D time es fw)
   run_inside time es fw f =
-      batch-kept (inside_in A tables) (rows_in tables.machines) tables D closed (λ i r c v. v) (omega arith) time es fw
+      batch_kept (inside_in A tables) (rows_in tables.machines) tables D closed (λ i r c v. v) (omega arith) time es fw
       (num fw.machines (rows_in tables.machines) f.machines (few tables valid)) f.states f.signal
     where
       num : (m n : ℕ) → m ≡ n → n ≤ machine_max → min m machine_max ≡ n
@@ -132,10 +132,10 @@ machines_stay : (tables : Tables) (D : Source Place) (time : ℕ) (es : List ℕ
     → Ok (λ n. Unit) (λ x. x.framework.machines ≡ fw.machines) (trigger_events tables D time es fw)
 unfolding machine_turn signal_machine
 machines_stay tables D time es fw =
-    run-kept (λ n. Unit) Same tables D (num_machines fw) same (λ x e. e)
+    run_kept (λ n. Unit) Same tables D (num_machines fw) same (λ x e. e)
     (λ i h x e. stored_machines fw.machines x i
     (transition (env_of tables D x.framework i) signal (runtime_at x.framework i) x.shared (get_or x.actions i no_action)) e)
-    (event-kept (λ n. Unit) Same tables D (num_machines fw) same (λ kind x e. e)
+    (event_kept (λ n. Unit) Same tables D (num_machines fw) same (λ kind x e. e)
     (λ kind machine blocked i h x e. stored_machines fw.machines x i
     (turn (env_of tables D x.framework i) kind (limit_falls kind machine i) blocked (runtime_at x.framework i) x.shared
     (get_or x.actions i no_action)) e)) time es fw refl
@@ -169,15 +169,15 @@ Goes tables fw x = InRun (inside_in (λ a. Unit) tables) (rows_in tables.machine
 pub batch_fits : (fw : Framework) (tables : Tables) (time : ℕ) (es : List ℕ) (D : Source Place) (out : List ℕ)
     → (batch fw tables time es D out).answer.refusal ≡ 0 → T (fits_tables tables (batch fw tables time es D out).answer.framework)
 batch_fits fw tables time es D out =
-    batch-ok (λ n. Unit) (Goes tables fw) (λ b. b.answer.refusal ≡ 0 → T (fits_tables tables b.answer.framework))
+    batch_ok (λ n. Unit) (Goes tables fw) (λ b. b.answer.refusal ≡ 0 → T (fits_tables tables b.answer.framework))
     fw tables time es D out
     (λ e. let c = checked fw tables es out e in
     ok_both _ _ (trigger_events tables D time es fw)
-    (run_inside (λ a. Unit) tables D c.0 tt (λ fw' i h r a v l below g. tt) time es fw (fits-says tables fw c.1))
+    (run_inside (λ a. Unit) tables D c.0 tt (λ fw' i h r a v l below g. tt) time es fw (fits_says tables fw c.1))
     (machines_stay tables D time es fw))
     (λ e z. absurd (e z)) (λ e n r z. (checked fw tables es out e).1)
-    (λ e x g z. says-fits tables (accepted x out).answer.framework (record {
-      machines = g.1 ∙ (fits-says tables fw (checked fw tables es out e).1).machines;
+    (λ e x g z. says_fits tables (accepted x out).answer.framework (record {
+      machines = g.1 ∙ (fits_says tables fw (checked fw tables es out e).1).machines;
       states = g.0.each;
       signal = g.0.signal;
       ended = ap (ended_in x.framework.runtime) g.0.machines;
@@ -194,7 +194,7 @@ pub record Fresh (tables : Tables) (x : Run) : Type 0 where
 pub opens_fresh : (R : ℕ → Type 0) (tables : Tables) (padding blocking : Float) (time : ℕ) (D : Source Place) → Refuses R D
     → Ok R (Fresh tables) (open_run tables padding blocking time D)
 opens_fresh R tables padding blocking time D refuses =
-    opening-kept R (Fresh tables) tables D refuses comes padding blocking time (record {
+    opening_kept R (Fresh tables) tables D refuses comes padding blocking time (record {
       machines = refl;
       states = all_zero machine_max;
       signal = refl;
@@ -226,12 +226,12 @@ none_ended rs (suc n) h =
 pub opening_fits : (tables : Tables) (padding blocking : Float) (time : ℕ) (D : Source Place) → Telling D
     → (opening tables padding blocking time D).refusal ≡ 0 → T (fits_tables tables (opening tables padding blocking time D).framework)
 opening_fits tables padding blocking time D tells =
-    opening-ok (λ n. 0 < n) (Fresh tables) (λ o. o.refusal ≡ 0 → T (fits_tables tables o.framework)) tables padding blocking time D
+    opening_ok (λ n. 0 < n) (Fresh tables) (λ o. o.refusal ≡ 0 → T (fits_tables tables o.framework)) tables padding blocking time D
     (λ e. opens_fresh (λ n. 0 < n) tables padding blocking time D (by_told D tells)) (λ e z. absurd (e z))
     (λ e n w z. absurd (lt_irrefl 0 (subst (λ (j : ℕ). 0 < j) z w)))
-    (λ e x f z. says-fits tables x.framework (record {
+    (λ e x f z. says_fits tables x.framework (record {
       machines = f.machines;
-      states = λ i h. inr (subst (λ (s : ℕ). s < states_in tables i) (sym (f.states i)) (some-state tables (valid e) i h));
+      states = λ i h. inr (subst (λ (s : ℕ). s < states_in tables i) (sym (f.states i)) (some_state tables (valid e) i h));
       signal = subst (λ (p : ℕ). p < 2 + rows_in tables.machines) (sym f.signal) (omega arith);
       ended = f.ended ∙ sym (none_ended x.framework.runtime (rows_in tables.machines) f.states);
     }))
@@ -259,15 +259,15 @@ checks_not_18 fw tables es out fits =
 pub never_18 : (fw : Framework) (tables : Tables) (time : ℕ) (es : List ℕ) (D : Source Place) (out : List ℕ)
     → Refuses (λ n. n ≡ 18 → ⊥) D → T (fits_tables tables fw) → (batch fw tables time es D out).answer.refusal ≡ 18 → ⊥
 never_18 fw tables time es D out refuses fits =
-    batch-ok (λ n. n ≡ 18 → ⊥) (λ x. Unit) (λ b. b.answer.refusal ≡ 18 → ⊥) fw tables time es D out
-    (λ e. run-stops (λ n. n ≡ 18 → ⊥) tables D refuses time es fw) (λ e. checks_not_18 fw tables es out fits) (λ e n h. h) (λ e x q z. omega (arith, z))
+    batch_ok (λ n. n ≡ 18 → ⊥) (λ x. Unit) (λ b. b.answer.refusal ≡ 18 → ⊥) fw tables time es D out
+    (λ e. run_stops (λ n. n ≡ 18 → ⊥) tables D refuses time es fw) (λ e. checks_not_18 fw tables es out fits) (λ e n h. h) (λ e x q z. omega (arith, z))
 
 -- two tapes refuse by 16 and 17
 pub never_18_on_tapes : (fw : Framework) (tables : Tables) (time : ℕ) (es : List ℕ) (chances values : List Float) (out : List ℕ)
     → T (fits_tables tables fw) → (batch fw tables time es (tapes chances values) out).answer.refusal ≡ 18 → ⊥
 never_18_on_tapes fw tables time es chances values out =
     never_18 fw tables time es (tapes chances values) out
-    (by-tapes (λ n. n ≡ 18 → ⊥) (λ z. omega (arith, z)) (λ z. omega (arith, z)) chances values)
+    (by_tapes (λ n. n ≡ 18 → ⊥) (λ z. omega (arith, z)) (λ z. omega (arith, z)) chances values)
 
 -- and a batch on words by 24
 pub never_18_on : (fw : Framework) (tables : Tables) (time : ℕ) (es : List ℕ) (lent : Lent) (out : List ℕ)
@@ -278,4 +278,4 @@ never_18_on fw tables time es (on_words ws) out fits =
     either (λ b. b.answer.refusal ≡ 18 → ⊥)
     (outside_refused (tables_refusal tables.machines tables.states tables.transitions) tables)
     (refused fw out 24) (batch fw tables time es (words ws) out) (λ z. omega (arith, z))
-    (never_18 fw tables time es (words ws) out (by-words (λ n. n ≡ 18 → ⊥) (λ z. omega (arith, z)) ws) fits)
+    (never_18 fw tables time es (words ws) out (by_words (λ n. n ≡ 18 → ⊥) (λ z. omega (arith, z)) ws) fits)

@@ -15,9 +15,9 @@ use Rattle.dists.specs.declared.WholeDrawn.TheVariants.{Refused, GotWhole}
 use Rattle.steps.specs.Transition.{no_action, transition}
 use Rattle.steps.specs.Events.{Tables, Run, Outcome, num_machines, no_runtime, runtime_at, machine_word, states_of, env_of, stored, with_counts, limit_falls, turn, machine_turn, pending_of, signal_machine}
 use Rattle.steps.specs.Framework.{shared_from, no_actions, new_framework, new_runtime, start_limit, opened_with, open_machine, opened, open_turn, rows_in, open_run, trigger_events}
-use Rattle.steps.specs.Runs.{either, stored_at, Ok, turns-ok, event-kept, run-kept}
-use Rattle.steps.specs.Draws.{Refuses, WholeOk, limit-ok}
-use Rattle.steps.specs.Walk.{Kept, Closed, Stays, transition-kept, turn-kept}
+use Rattle.steps.specs.Runs.{either, stored_at, Ok, turns_ok, event_kept, run_kept}
+use Rattle.steps.specs.Draws.{Refuses, WholeOk, limit_ok}
+use Rattle.steps.specs.Walk.{Kept, Closed, Stays, transition_kept, turn_kept}
 use Rattle.steps.specs.declared.MachineRuntime.{MachineRuntime}
 use Rattle.steps.specs.declared.Counts.{Counts}
 use Rattle.steps.specs.declared.Framework.{Framework}
@@ -45,7 +45,7 @@ module _ (R : ℕ → Type 0) (P : Run → Type 0) (T : Tables) (D : Source Plac
   unfolding open_machine start_limit
   open-turn-kept i x p =
       with (start_limit row D.values x.shared.place)
-      (either (WholeOk R (λ v. Unit)) (eqb (action_of row) 0) _ _ tt (limit-ok R D refuses row x.shared.place))
+      (either (WholeOk R (λ v. Unit)) (eqb (action_of row) 0) _ _ tt (limit_ok R D refuses row x.shared.place))
     where
       row : List ℕ
       row = state_row (states_of T i) 0
@@ -55,10 +55,10 @@ module _ (R : ℕ → Type 0) (P : Run → Type 0) (T : Tables) (D : Source Plac
       with (Refused n) o = o
       with (GotWhole w) o = comes i w.value w.at x p
 
-  pub opening-kept : (padding blocking : Float) (time : ℕ) → P (open_start T padding blocking time)
+  pub opening_kept : (padding blocking : Float) (time : ℕ) → P (open_start T padding blocking time)
       → Ok R P (open_run T padding blocking time D)
-  opening-kept padding blocking time p =
-      turns-ok R P (open_turn T D) (rows_in T.machines) 0 (λ i a b. open-turn-kept i) (open_start T padding blocking time) p
+  opening_kept padding blocking time p =
+      turns_ok R P (open_turn T D) (rows_in T.machines) 0 (λ i a b. open-turn-kept i) (open_start T padding blocking time) p
 
 -- ---- What a run keeps: for each machine what its own steps keep, and of all of them the pending signal and the refusals.
 pub record Family : Type 1 where
@@ -119,7 +119,7 @@ module _ (F : Family) (M : ℕ) where
         store_kept x k h v
         (turn (env_of T D x.framework k) kind (limit_falls kind machine k) blocked (runtime_at x.framework k) x.shared
         (get_or x.actions k no_action))
-        (turn-kept (env_of T D x.framework k) (member F k) (closed x.framework k h) kind (limit_falls kind machine k) blocked
+        (turn_kept (env_of T D x.framework k) (member F k) (closed x.framework k h) kind (limit_falls kind machine k) blocked
         (runtime_at x.framework k) x.shared (get_or x.actions k no_action)
         (counts k (runtime_at x.framework k) _ (v.each k h)) (v.acts k h) v.signal)
 
@@ -128,16 +128,16 @@ module _ (F : Family) (M : ℕ) where
     signal-in k h x v =
         store_kept x k h v
         (transition (env_of T D x.framework k) signal (runtime_at x.framework k) x.shared (get_or x.actions k no_action))
-        (transition-kept (env_of T D x.framework k) (member F k) (closed x.framework k h) signal (runtime_at x.framework k)
+        (transition_kept (env_of T D x.framework k) (member F k) (closed x.framework k h) signal (runtime_at x.framework k)
         x.shared (get_or x.actions k no_action) (v.each k h) (v.acts k h) v.signal)
 
-    pub batch-kept : (time : ℕ) (es : List ℕ) (fw : Framework) → num_machines fw ≡ M
+    pub batch_kept : (time : ℕ) (es : List ℕ) (fw : Framework) → num_machines fw ≡ M
         → ((i : ℕ) → i < M → Machine i (runtime_at fw i)) → Signal fw.signal_pending
         → Ok Refusal (InRun F M) (trigger_events T D time es fw)
-    batch-kept time es fw m each pending =
-        run-kept Refusal (InRun F M) T D M (λ x v. v.machines)
+    batch_kept time es fw m each pending =
+        run_kept Refusal (InRun F M) T D M (λ x v. v.machines)
         (λ x v. record { machines = v.machines; each = v.each; acts = v.acts; signal = none }) signal-in
-        (event-kept Refusal (InRun F M) T D M (λ x v. v.machines)
+        (event_kept Refusal (InRun F M) T D M (λ x v. v.machines)
         (λ kind x v. record { machines = v.machines; each = v.each; acts = v.acts; signal = v.signal }) turn_in)
         time es fw (record {
           machines = m;

@@ -85,15 +85,15 @@ module _ {S S' : Type 0} (R : S → S' → Type 0) (D : Source S) (D' : Source S
   alike-after k f (got c s) (got c' s') a =
       rw (sym a.0) (f c s s' a.1)
 
-  pub run-alike : {A : Type 0} (t : Play A) (s : S) (s' : S') → R s s' → Alike R (run D t s) (run D' t s')
-  run-alike (ends a) s s' r = (refl, r)
-  run-alike (attempts e m t) s s' r = run-alike t (D.attempt e m s) (D'.attempt e m s') (h.attempt e m s s' r)
-  run-alike (ask_chance k) s s' r =
-      alike-after k (λ c. run-alike (k c)) (D.chance s) (D'.chance s') (h.chance s s' r)
-  run-alike (ask_uniform low high k) s s' r =
-      alike-after k (λ c. run-alike (k c)) (D.values.uniform low high s) (D'.values.uniform low high s') (h.uniform low high s s' r)
-  run-alike (ask_outside k) s s' r =
-      alike-after k (λ c. run-alike (k c)) (D.values.outside s) (D'.values.outside s') (h.outside s s' r)
+  pub run_alike : {A : Type 0} (t : Play A) (s : S) (s' : S') → R s s' → Alike R (run D t s) (run D' t s')
+  run_alike (ends a) s s' r = (refl, r)
+  run_alike (attempts e m t) s s' r = run_alike t (D.attempt e m s) (D'.attempt e m s') (h.attempt e m s s' r)
+  run_alike (ask_chance k) s s' r =
+      alike-after k (λ c. run_alike (k c)) (D.chance s) (D'.chance s') (h.chance s s' r)
+  run_alike (ask_uniform low high k) s s' r =
+      alike-after k (λ c. run_alike (k c)) (D.values.uniform low high s) (D'.values.uniform low high s') (h.uniform low high s s' r)
+  run_alike (ask_outside k) s s' r =
+      alike-after k (λ c. run_alike (k c)) (D.values.outside s) (D'.values.outside s') (h.outside s s' r)
 
 -- ---- What a way down a tree holds: attempts in all, those by CounterZero, those by Signal at machine i, and draws of each kind.
 pub record Counts : Type 0 where
@@ -187,8 +187,8 @@ pub record RowServed (row : List ℕ) : Type 0 where
   pub timeout : has_timeout row ≡ true → TypeServed (dist_at row timeout).dist
   pub duration : has_duration row ≡ true → TypeServed (dist_at row duration).dist
   pub limit : has_limit row ≡ true → TypeServed (dist_at row limit).dist
-  pub counter-a : eqb (get_or row counter_a 0) 0 ≡ false → TypeServed (dist_at row (counter_a + 2)).dist
-  pub counter-b : eqb (get_or row counter_b 0) 0 ≡ false → TypeServed (dist_at row (counter_b + 2)).dist
+  pub counter_a_lem : eqb (get_or row counter_a 0) 0 ≡ false → TypeServed (dist_at row (counter_a + 2)).dist
+  pub counter_b_lem : eqb (get_or row counter_b 0) 0 ≡ false → TypeServed (dist_at row (counter_b + 2)).dist
 
 -- ---- A step is a play: at every source over places it gives what the source makes of one tree. `view` reads the answer as the
 -- step's own type has it; Post says what each way down costs. `Sound` is what has to hold of the tables for the questions to be such as

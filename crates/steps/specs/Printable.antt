@@ -12,13 +12,13 @@ use Rattle.steps.specs.Limits.{below_action_limits}
 use Rattle.steps.specs.Transition.{no_action, returned_flags, returned_timer}
 use Rattle.steps.specs.Events.{Tables, num_machines, env_of}
 use Rattle.steps.specs.Framework.{rows_in, fits_tables, trigger_events, accepted, batch}
-use Rattle.steps.specs.Runs.{by_test, Ok, ok_any, batch-ok}
+use Rattle.steps.specs.Runs.{by_test, Ok, ok_any, batch_ok}
 use Rattle.steps.specs.Draws.{Gives}
 use Rattle.steps.specs.Walk.{row_of}
 use Rattle.steps.specs.Machines.{InRun}
-use Rattle.steps.specs.Fits.{fits-says, inside_in, run_inside, checked}
-use Rattle.steps.specs.Rows.{row_words, RowOf, rows-most, rows_are}
-use Rattle.steps.specs.Targets.{in_state, Passed, valid-state}
+use Rattle.steps.specs.Fits.{fits_says, inside_in, run_inside, checked}
+use Rattle.steps.specs.Rows.{row_words, RowOf, rows_most, rows_are}
+use Rattle.steps.specs.Targets.{in_state, Passed, valid_state}
 use Rattle.steps.specs.declared.MachineRuntime.{MachineRuntime}
 use Rattle.steps.specs.declared.Context.{Context}
 use Rattle.steps.specs.declared.Framework.{Framework}
@@ -75,9 +75,9 @@ run_small tables D valid time es fw t =
     run_inside Small tables D valid none_small
     (λ fw' i h r a v l below g.
     row_small (row_of (env_of tables D fw' i) r)
-    (valid-state tables valid i h r.current_state (in_state r v l)).codes.action
+    (valid_state tables valid i h r.current_state (in_state r v l)).codes.action
     (has_action (env_of tables D fw' i).context r (row_of (env_of tables D fw' i) r) below) a g)
-    time es fw (fits-says tables fw t)
+    time es fw (fits_says tables fw t)
 
 -- ---- a row of six words, as a line of the printed run has it
 pub record RowBounds (row : List ℕ) : Type 0 where
@@ -123,7 +123,7 @@ most m = omega arith
 pub rows_bounded : (fw : Framework) (tables : Tables) (time : ℕ) (es : List ℕ) (D : Source Place) (out : List ℕ) (j : ℕ)
     → j < (batch fw tables time es D out).answer.actions → RowBounds (drop (6 * j) (batch fw tables time es D out).out)
 rows_bounded fw tables time es D out j =
-    batch-ok (λ n. Unit) (InRun (inside_in Small tables) (rows_in tables.machines))
+    batch_ok (λ n. Unit) (InRun (inside_in Small tables) (rows_in tables.machines))
     (λ b. j < b.answer.actions → RowBounds (drop (6 * j) b.out)) fw tables time es D out
     (λ e. let c = checked fw tables es out e in run_small tables D c.0 time es fw c.1)
     (λ e h. absurd (none h)) (λ e n r h. absurd (none h))
@@ -137,6 +137,6 @@ rows_bounded fw tables time es D out j =
 pub rows_few : (fw : Framework) (tables : Tables) (time : ℕ) (es : List ℕ) (D : Source Place) (out : List ℕ)
     → (batch fw tables time es D out).answer.actions ≤ 16
 rows_few fw tables time es D out =
-    batch-ok (λ n. Unit) (λ x. Unit) (λ b. b.answer.actions ≤ 16) fw tables time es D out
+    batch_ok (λ n. Unit) (λ x. Unit) (λ b. b.answer.actions ≤ 16) fw tables time es D out
     (λ e. ok_any (trigger_events tables D time es fw)) (λ e. omega arith) (λ e n r. omega arith)
-    (λ e x q. le_trans (rows-most x.actions (num_machines x.framework)) (most x.framework.machines))
+    (λ e x q. le_trans (rows_most x.actions (num_machines x.framework)) (most x.framework.machines))

@@ -12,10 +12,10 @@ use Rattle.tables.specs.Valid.{TablesAnswer, tables_pass, three, first-machine}
 use Rattle.tables.specs.Valid.Laws.{answered}
 use Rattle.steps.specs.Events.{Tables, num_machines, env_of}
 use Rattle.steps.specs.Framework.{rows_in, fits_tables, events_fit, open_run, opening, trigger_events, batch_refusal, batch}
-use Rattle.steps.specs.Runs.{either, Ok, ok-map, opening-ok, batch-ok}
-use Rattle.steps.specs.Draws.{Refuses, by-tapes}
+use Rattle.steps.specs.Runs.{either, Ok, ok_map, opening_ok, batch_ok}
+use Rattle.steps.specs.Draws.{Refuses, by_tapes}
 use Rattle.steps.specs.Walk.{Closed}
-use Rattle.steps.specs.Machines.{Family, member, InRun, batch-kept, opening-kept}
+use Rattle.steps.specs.Machines.{Family, member, InRun, batch_kept, opening_kept}
 use Rattle.steps.specs.declared.Framework.{Framework}
 
 -- ---- a run stops only by a refusal of its source
@@ -23,14 +23,14 @@ abbrev anything : (ℕ → Type 0) → Family
 anything R = record { Refusal = R; Machine = λ i r. Unit; Action = λ i a. Unit; Signal = λ pending. Unit }
 
 module _ (R : ℕ → Type 0) (tables : Tables) (D : Source Place) (refuses : Refuses R D) where
-  pub opening-stops : (padding blocking : Float) (time : ℕ) → Ok R (λ x. Unit) (open_run tables padding blocking time D)
-  opening-stops padding blocking time =
-      opening-kept R (λ x. Unit) tables D refuses (λ i limit at x q. tt) padding blocking time tt
+  pub opening_stops : (padding blocking : Float) (time : ℕ) → Ok R (λ x. Unit) (open_run tables padding blocking time D)
+  opening_stops padding blocking time =
+      opening_kept R (λ x. Unit) tables D refuses (λ i limit at x q. tt) padding blocking time tt
 
-  pub run-stops : (time : ℕ) (es : List ℕ) (fw : Framework) → Ok R (λ x. Unit) (trigger_events tables D time es fw)
-  run-stops time es fw =
-      ok-map R (InRun (anything R) (num_machines fw)) (λ x. Unit) (trigger_events tables D time es fw)
-      (batch-kept (anything R) (num_machines fw) tables D closed (λ i r c v. tt) tt time es fw refl (λ i h. tt) tt)
+  pub run_stops : (time : ℕ) (es : List ℕ) (fw : Framework) → Ok R (λ x. Unit) (trigger_events tables D time es fw)
+  run_stops time es fw =
+      ok_map R (InRun (anything R) (num_machines fw)) (λ x. Unit) (trigger_events tables D time es fw)
+      (batch_kept (anything R) (num_machines fw) tables D closed (λ i r c v. tt) tt time es fw refl (λ i h. tt) tt)
       (λ x v. tt)
     where
       closed : (fw' : Framework) (i : ℕ) → i < num_machines fw → Closed (env_of tables D fw' i) (member (anything R) i)
@@ -104,8 +104,8 @@ checks_most fw tables es out =
 pub opening_refusal : (tables : Tables) (padding blocking : Float) (time : ℕ) (D : Source Place) → Refuses (λ n. n ≤ 17) D
     → (opening tables padding blocking time D).refusal ≤ 17
 opening_refusal tables padding blocking time D refuses =
-    opening-ok (λ n. n ≤ 17) (λ x. Unit) (λ o. o.refusal ≤ 17) tables padding blocking time D
-    (λ e. opening-stops (λ n. n ≤ 17) tables D refuses padding blocking time)
+    opening_ok (λ n. n ≤ 17) (λ x. Unit) (λ o. o.refusal ≤ 17) tables padding blocking time D
+    (λ e. opening_stops (λ n. n ≤ 17) tables D refuses padding blocking time)
     (λ e. either_most 17 (fractions_refusal padding blocking) _ (le_trans (fractions_most padding blocking) (omega arith))
     (le_trans (tables_most tables.machines tables.states tables.transitions) (omega arith)))
     (λ e n h. h) (λ e x q. omega arith)
@@ -113,8 +113,8 @@ opening_refusal tables padding blocking time D refuses =
 pub batch_refusal_lem : (fw : Framework) (tables : Tables) (time : ℕ) (es : List ℕ) (D : Source Place) → Refuses (λ n. n ≤ 20) D
     → (out : List ℕ) → (batch fw tables time es D out).answer.refusal ≤ 20
 batch_refusal_lem fw tables time es D refuses out =
-    batch-ok (λ n. n ≤ 20) (λ x. Unit) (λ b. b.answer.refusal ≤ 20) fw tables time es D out
-    (λ e. run-stops (λ n. n ≤ 20) tables D refuses time es fw) (λ e. checks_most fw tables es out) (λ e n h. h)
+    batch_ok (λ n. n ≤ 20) (λ x. Unit) (λ b. b.answer.refusal ≤ 20) fw tables time es D out
+    (λ e. run_stops (λ n. n ≤ 20) tables D refuses time es fw) (λ e. checks_most fw tables es out) (λ e n h. h)
     (λ e x q. omega arith)
 
 -- two tapes refuse by 16 and 17
@@ -122,10 +122,10 @@ pub opening_refusal_on_tapes : (tables : Tables) (padding blocking : Float) (tim
     → (opening tables padding blocking time (tapes chances values)).refusal ≤ 17
 opening_refusal_on_tapes tables padding blocking time chances values =
     opening_refusal tables padding blocking time (tapes chances values)
-    (by-tapes (λ n. n ≤ 17) (omega arith) (omega arith) chances values)
+    (by_tapes (λ n. n ≤ 17) (omega arith) (omega arith) chances values)
 
 pub batch_refusal_on_tapes : (fw : Framework) (tables : Tables) (time : ℕ) (es : List ℕ) (chances values : List Float) (out : List ℕ)
     → (batch fw tables time es (tapes chances values) out).answer.refusal ≤ 20
 batch_refusal_on_tapes fw tables time es chances values =
     batch_refusal_lem fw tables time es (tapes chances values)
-    (by-tapes (λ n. n ≤ 20) (omega arith) (omega arith) chances values)
+    (by_tapes (λ n. n ≤ 20) (omega arith) (omega arith) chances values)

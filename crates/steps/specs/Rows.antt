@@ -95,8 +95,8 @@ module _ (actions : List TriggerAction) (n : ℕ) where
   count-is : row_count ≡ (rows_read actions n).0
   count-is = ap (λ (m : ℕ). m / 6) (rows_read actions n).1.0 ∙ mul-div_cancel (rows_read actions n).0 (lit< tt)
 
-  pub rows-most : row_count ≤ n
-  rows-most = subst (λ (m : ℕ). m ≤ n) (sym count-is) (rows_read actions n).1.1
+  pub rows_most : row_count ≤ n
+  rows_most = subst (λ (m : ℕ). m ≤ n) (sym count-is) (rows_read actions n).1.1
 
   pub rows_are : (out : List ℕ) (j : ℕ) → j < row_count → RowOf actions n (written (action_rows actions n) out) j
   rows_are out j l =

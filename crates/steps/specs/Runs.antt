@@ -44,34 +44,34 @@ Ok R P (stop n) = R n
 Ok R P (go x) = P x
 
 module _ (R : ℕ → Type 0) where
-  pub ok-then : (P Q : Run → Type 0) (o : Outcome) (f : Run → Outcome) → Ok R P o
+  pub ok_then : (P Q : Run → Type 0) (o : Outcome) (f : Run → Outcome) → Ok R P o
       → ((x : Run) → P x → Ok R Q (f x)) → Ok R Q (and_then o f)
-  ok-then P Q (stop n) f h k = h
-  ok-then P Q (go x) f h k = k x h
+  ok_then P Q (stop n) f h k = h
+  ok_then P Q (go x) f h k = k x h
 
-  pub ok-map : (P Q : Run → Type 0) (o : Outcome) → Ok R P o → ((x : Run) → P x → Q x) → Ok R Q o
-  ok-map P Q (stop n) h k = h
-  ok-map P Q (go x) h k = k x h
+  pub ok_map : (P Q : Run → Type 0) (o : Outcome) → Ok R P o → ((x : Run) → P x → Q x) → Ok R Q o
+  ok_map P Q (stop n) h k = h
+  ok_map P Q (go x) h k = k x h
 
   -- ---- turns in order: P n i x holds of the run x where n turns from turn i on are left
-  pub each-ok : (P : ℕ → ℕ → Run → Type 0) (f : ℕ → Run → Outcome)
+  pub each_ok : (P : ℕ → ℕ → Run → Type 0) (f : ℕ → Run → Outcome)
       → ((n i : ℕ) (x : Run) → P (suc n) i x → Ok R (P n (i + 1)) (f i x))
       → (n i : ℕ) (x : Run) → P n i x → Ok R (λ y. (j : ℕ) × P zero j y) (each f n i x)
   unfolding each
-  each-ok P f h zero i x p = (i, p)
-  each-ok P f h (suc n) i x p =
-      ok-then (P n (i + 1)) (λ y. (j : ℕ) × P zero j y) (f i x) (each f n (i + 1)) (h n i x p)
-      (each-ok P f h n (i + 1))
+  each_ok P f h zero i x p = (i, p)
+  each_ok P f h (suc n) i x p =
+      ok_then (P n (i + 1)) (λ y. (j : ℕ) × P zero j y) (f i x) (each f n (i + 1)) (h n i x p)
+      (each_ok P f h n (i + 1))
 
   -- what each of n turns from turn i on keeps
-  pub turns-ok : (P : Run → Type 0) (f : ℕ → Run → Outcome) (n i : ℕ)
+  pub turns_ok : (P : Run → Type 0) (f : ℕ → Run → Outcome) (n i : ℕ)
       → ((k : ℕ) → i ≤ k → k < i + n → (x : Run) → P x → Ok R P (f k x))
       → (x : Run) → P x → Ok R P (each f n i x)
   unfolding each
-  turns-ok P f zero i h x p = p
-  turns-ok P f (suc n) i h x p =
-      ok-then P P (f i x) (each f n (i + 1)) (h i (le_refl i) (omega arith) x p)
-      (turns-ok P f n (i + 1) (λ k a b. h k (omega arith) (omega arith)))
+  turns_ok P f zero i h x p = p
+  turns_ok P f (suc n) i h x p =
+      ok_then P P (f i x) (each f n (i + 1)) (h i (le_refl i) (omega arith) x p)
+      (turns_ok P f n (i + 1) (λ k a b. h k (omega arith) (omega arith)))
 
 -- ---- which machines take a turn at an event
 pub turn_range : (kind machine num i : ℕ) → first_for kind machine ≤ i
@@ -114,12 +114,12 @@ no_turn kind machine num i h o =
 -- ---- what every machine's turn keeps, among M machines, an event, the signals and a batch keep
 module _ (R : ℕ → Type 0) (P : Run → Type 0) (T : Tables) (D : Source Place) (M : ℕ)
     (machines : (x : Run) → P x → num_machines x.framework ≡ M) where
-  pub event-kept : ((kind : ℕ) (x : Run) → P x → P (account kind x))
+  pub event_kept : ((kind : ℕ) (x : Run) → P x → P (account kind x))
       → ((kind machine blocked i : ℕ) → i < M → (x : Run) → P x → Ok R P (machine_turn T D kind machine blocked i x))
       → (kind machine : ℕ) (x : Run) → P x → Ok R P (process_event T D kind machine x)
   unfolding process_event
-  event-kept counts turn kind machine x p =
-      turns-ok R P (machine_turn T D kind machine (blocked_now x.framework))
+  event_kept counts turn kind machine x p =
+      turns_ok R P (machine_turn T D kind machine (blocked_now x.framework))
       (turns_for kind machine (num_machines x.framework)) (first_for kind machine)
       (λ i a b. turn kind machine (blocked_now x.framework) i
       (subst (λ (n : ℕ). i < n) (machines x p) (turn_range kind machine (num_machines x.framework) i a b).0))
@@ -143,26 +143,26 @@ module _ (R : ℕ → Type 0) (P : Run → Type 0) (T : Tables) (D : Source Plac
         out true false h k = taken x p
         out false c h k = taken x p
 
-    pub signals-kept : (x : Run) → P x → Ok R P (signals T D x)
+    pub signals_kept : (x : Run) → P x → Ok R P (signals T D x)
     unfolding signals
-    signals-kept x p =
+    signals_kept x p =
         either (Ok R P) (eqb (pending_of x) 0) _ _ p
-        (ok-then R P P (each (signal_turn T D (pending_of x)) (num_machines x.framework) 0 (unsignalled x))
+        (ok_then R P P (each (signal_turn T D (pending_of x)) (num_machines x.framework) 0 (unsignalled x))
         (last_signal T D (pending_of x))
-        (turns-ok R P (signal_turn T D (pending_of x)) (num_machines x.framework) 0
+        (turns_ok R P (signal_turn T D (pending_of x)) (num_machines x.framework) 0
         (λ i a b y q. either (Ok R P) (eqb (pending_of x) (2 + i)) (go y) (signal_machine T D i y) q (turn i (known i b) y q))
         (unsignalled x) (taken x p)) (last-kept (pending_of x)))
       where
         known : (i : ℕ) → i < 0 + num_machines x.framework → i < M
         known i b = let e = machines x p in omega arith
 
-    pub run-kept : ((kind machine : ℕ) (x : Run) → P x → Ok R P (process_event T D kind machine x))
+    pub run_kept : ((kind machine : ℕ) (x : Run) → P x → Ok R P (process_event T D kind machine x))
         → (time : ℕ) (es : List ℕ) (fw : Framework) → P (begin fw time) → Ok R P (trigger_events T D time es fw)
     unfolding trigger_events
-    run-kept event time es fw p =
-        ok-then R P P (each (event_turn T D es) (length es / 2) 0 (begin fw time)) (signals T D)
-        (turns-ok R P (event_turn T D es) (length es / 2) 0 (λ i a b x q. event (kind_at es i) (machine_at es i) x q)
-        (begin fw time) p) signals-kept
+    run_kept event time es fw p =
+        ok_then R P P (each (event_turn T D es) (length es / 2) 0 (begin fw time)) (signals T D)
+        (turns_ok R P (event_turn T D es) (length es / 2) 0 (λ i a b x q. event (kind_at es i) (machine_at es i) x q)
+        (begin fw time) p) signals_kept
 
 -- ---- no refusal among several
 pub none_of : (a b : ℕ) → or_else a b ≡ 0 → (a ≡ 0) × (b ≡ 0)
@@ -175,14 +175,14 @@ none_of a b h = by (eqb a 0) (eqb-true a 0) (eqb-false a 0) h
 
 -- ---- an opening and a batch: refused by a check, stopped in the run, or accepted
 module _ (R : ℕ → Type 0) (Q : Run → Type 0) where
-  pub opening-ok : (P : Opened → Type 0) (T : Tables) (padding blocking : Float) (time : ℕ) (D : Source Place)
+  pub opening_ok : (P : Opened → Type 0) (T : Tables) (padding blocking : Float) (time : ℕ) (D : Source Place)
       → (open_refusal T padding blocking ≡ 0 → Ok R Q (open_run T padding blocking time D))
       → ((open_refusal T padding blocking ≡ 0 → ⊥) → P (opened_by (stop (open_refusal T padding blocking))))
       → (open_refusal T padding blocking ≡ 0 → (n : ℕ) → R n → P (opened_by (stop n)))
       → (open_refusal T padding blocking ≡ 0 → (x : Run) → Q x → P (opened_by (go x)))
       → P (opening T padding blocking time D)
   unfolding opening
-  opening-ok P T padding blocking time D run checked stopped goes =
+  opening_ok P T padding blocking time D run checked stopped goes =
       by_test P (eqb n 0) _ _ (λ e. by (open_run T padding blocking time D) (run (eqb-true n 0 e)) (eqb-true n 0 e))
       (λ e. checked (eqb-false n 0 e))
     where
@@ -193,14 +193,14 @@ module _ (R : ℕ → Type 0) (Q : Run → Type 0) where
       by (stop k) h e = stopped e k h
       by (go x) h e = goes e x h
 
-  pub batch-ok : (P : Batch → Type 0) (fw : Framework) (T : Tables) (time : ℕ) (es : List ℕ) (D : Source Place) (out : List ℕ)
+  pub batch_ok : (P : Batch → Type 0) (fw : Framework) (T : Tables) (time : ℕ) (es : List ℕ) (D : Source Place) (out : List ℕ)
       → (batch_refusal fw T es out ≡ 0 → Ok R Q (trigger_events T D time es fw))
       → ((batch_refusal fw T es out ≡ 0 → ⊥) → P (refused fw out (batch_refusal fw T es out)))
       → (batch_refusal fw T es out ≡ 0 → (n : ℕ) → R n → P (refused fw out n))
       → (batch_refusal fw T es out ≡ 0 → (x : Run) → Q x → P (accepted x out))
       → P (batch fw T time es D out)
   unfolding batch
-  batch-ok P fw T time es D out run checked stopped goes =
+  batch_ok P fw T time es D out run checked stopped goes =
       by_test P (eqb n 0) _ _ (λ e. by (trigger_events T D time es fw) (run (eqb-true n 0 e)) (eqb-true n 0 e))
       (λ e. checked (eqb-false n 0 e))
     where

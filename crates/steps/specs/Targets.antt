@@ -17,7 +17,7 @@ use Rattle.machine.specs.declared.state.Next.{Next}
 use Rattle.machine.specs.declared.state.Next.TheVariants.{State, Nothing}
 use Rattle.tables.specs.Machine.{tables_refusal}
 use Rattle.tables.specs.Valid.{Target, ValidPair, ValidState}
-use Rattle.tables.specs.Valid.Laws.{zero-valid}
+use Rattle.tables.specs.Valid.Laws.{zero_valid}
 use Rattle.steps.specs.Events.{Tables, runtime_at, machine_word, states_of, env_of}
 use Rattle.steps.specs.Framework.{rows_in, states_fit}
 use Rattle.steps.specs.Runs.{either}
@@ -81,10 +81,10 @@ module _ (tables : Tables) (valid : Passed tables) (i : ℕ) (h : i < rows_in ta
       get_or-take (1 * machine_words) (drop (i * machine_words) tables.machines) k 0 l ∙ get_or-drop (i * machine_words) tables.machines k 0
 
   -- it has a first state
-  pub some-state : 0 < states_in tables i
-  some-state =
+  pub some_state : 0 < states_in tables i
+  some_state =
       subst (λ (n : ℕ). 0 < n) (word num_states (lit< tt))
-      ((zero-valid tables.machines tables.states tables.transitions valid).each i h).place.some
+      ((zero_valid tables.machines tables.states tables.transitions valid).each i h).place.some
 
   States : ℕ → ℕ → Type 0
   States first n =
@@ -95,12 +95,12 @@ module _ (tables : Tables) (valid : Passed tables) (i : ℕ) (h : i < rows_in ta
   its-states =
       subst (λ (n : ℕ). States (machine_word tables.machines i first_state) n) (word num_states (lit< tt))
       (subst (λ (f : ℕ). States f (get_or (rows_of machine_words tables.machines i 1) num_states 0)) (word first_state (lit< tt))
-      ((zero-valid tables.machines tables.states tables.transitions valid).each i h).each)
+      ((zero_valid tables.machines tables.states tables.transitions valid).each i h).each)
 
   -- each of its states is valid
-  pub valid-state : (state : ℕ) → state < states_in tables i → ValidState tables.transitions (states_in tables i) (state_row (states_of tables i) state)
+  pub valid_state : (state : ℕ) → state < states_in tables i → ValidState tables.transitions (states_in tables i) (state_row (states_of tables i) state)
   unfolding States
-  valid-state = its-states
+  valid_state = its-states
 
   aims : (state event : ℕ) → state < states_in tables i → (draw : Float)
       → Aimed (states_in tables i)
@@ -109,21 +109,21 @@ module _ (tables : Tables) (valid : Passed tables) (i : ℕ) (h : i < rows_in ta
       sample_aimed tables.transitions (states_in tables i) (first_of (state_row (states_of tables i) state) event)
       (count_of (state_row (states_of tables i) state) event) draw
       (elim (dec_lt event event_num) [
-        | yes l ↦ (valid-state state k).events event l
+        | yes l ↦ (valid_state state k).events event l
         | no l ↦ inl (no_more (states_of tables i) state event (omega arith))
       ])
 
   -- and where it goes is one of them
-  pub goes-inside : (D : Source Place) (fw : Framework) (r : MachineRuntime) (next : ℕ) → Inside (states_in tables i) r
+  pub goes_inside : (D : Source Place) (fw : Framework) (r : MachineRuntime) (next : ℕ) → Inside (states_in tables i) r
       → Chosen (env_of tables D fw i) r next → next < states_in tables i
-  goes-inside D fw r next inside c =
+  goes_inside D fw r next inside c =
       a-state
       (subst (Aimed (states_in tables i)) c.chosen (aims r.current_state c.event (in_state r inside c.alive) c.draw))
     where
       a-state : Target (states_in tables i) next → next < states_in tables i
       a-state (inl k) = k
       a-state (inr (inl e)) = absurd (c.no_end e)
-      a-state (inr (inr e)) = absurd (c.no-signal e)
+      a-state (inr (inr e)) = absurd (c.no_signal e)
 
 -- ---- a framework whose states fit has its machines in their states
 pub fit_states : (tables : Tables) (fw : Framework) (n : ℕ) → T (states_fit tables fw n) → (i : ℕ) → i < n

@@ -22,7 +22,7 @@ use Rattle.steps.specs.Limits.{below_action_limits}
 use Rattle.steps.specs.Transition.{Env, no_action, with_state, with_counters, with_place, with_tally, entered_with, enter, raise, schedule_action, update_counters, has_changed, scheduled_step, finish, finished, after_zero, after_counters, update_counter, entering, going, drawn, choosing, transition_by, zero_transition, transition, decrement_limit}
 use Rattle.steps.specs.Events.{counted_by, after_transition, turn}
 use Rattle.steps.specs.Runs.{either, by_test}
-use Rattle.steps.specs.Draws.{Refuses, WholeOk, ChanceOk, Gives, ScheduledOk, TalliedOk, chance-ok, limit-ok, schedule-ok, counters-ok}
+use Rattle.steps.specs.Draws.{Refuses, WholeOk, ChanceOk, Gives, ScheduledOk, TalliedOk, chance_ok, limit_ok, schedule_ok, counters_ok}
 use Rattle.steps.specs.declared.MachineRuntime.{MachineRuntime}
 use Rattle.steps.specs.declared.Counters.{Counters}
 use Rattle.steps.specs.declared.Shared.{Shared}
@@ -60,7 +60,7 @@ pub record Chosen (E : Env) (r : MachineRuntime) (next : ℕ) : Type 0 where
   pub alive : Alive r
   pub chosen : sample_state E.transitions (first_of (row_of E r) event) (count_of (row_of E r) event) draw ≡ State next
   pub no_end : next ≡ state_end → ⊥
-  pub no-signal : next ≡ state_signal → ⊥
+  pub no_signal : next ≡ state_signal → ⊥
 
 -- What keeps it: each thing that a step does.
 pub record Closed (E : Env) (K : Kept) : Type 0 where
@@ -97,7 +97,7 @@ module _ (E : Env) (K : Kept) (C : Closed E K) where
   unfolding enter
   enter-kept row r next at h c =
       by_test (EntryStays next) (eqb r.current_state next) _ _ (λ e. (h, eqb-true r.current_state next e))
-      (λ e. with (sample_limit row E.source.values at) (limit-ok Refusal E.source C.refuses row at))
+      (λ e. with (sample_limit row E.source.values at) (limit_ok Refusal E.source C.refuses row at))
     where
       with : (x : WholeDrawn) → WholeOk Refusal (λ v. Unit) x → EntryStays next (entered_with r next x)
       with (Refused n) o = o
@@ -110,7 +110,7 @@ module _ (E : Env) (K : Kept) (C : Closed E K) where
   finish-kept row before below j u o =
       by_test (Stays K) (u.allow_schedule && below) _ _
       (λ e. set (j (second u.allow_schedule below e)) (schedule_action row E.source.values u.shared.place)
-      (schedule-ok Refusal E.source C.refuses row u.shared.place))
+      (schedule_ok Refusal E.source C.refuses row u.shared.place))
       (λ e. o)
     where
       second : (a b : Bool) → (a && b) ≡ true → b ≡ true
@@ -135,7 +135,7 @@ module _ (E : Env) (K : Kept) (C : Closed E K) where
     unfolding update_counter
     update-kept row r s a h p q =
         counted (update_counters row E.source.values r.counters s.zeroed s.place)
-        (counters-ok Refusal E.source C.refuses row r.counters s.zeroed s.place)
+        (counters_ok Refusal E.source C.refuses row r.counters s.zeroed s.place)
       where
         after : (x : Stepped) → Stays K x → UpdateStays (after_zero x)
         after (Refused n) o = o
@@ -187,7 +187,7 @@ module _ (E : Env) (K : Kept) (C : Closed E K) where
           alive = l;
           chosen = e;
           no_end = eqb-false next state_end f;
-          no-signal = eqb-false next state_signal g;
+          no_signal = eqb-false next state_signal g;
         }))))
 
     choosing-kept : (event : ℕ) → Again (choosing z E event)
@@ -195,7 +195,7 @@ module _ (E : Env) (K : Kept) (C : Closed E K) where
         by_test (Stays K) (eqb r.current_state state_end) _ _ (λ e. (h, p, q))
         (λ e. either (Stays K) (eqb (count_of (row_of E r) event) 0) _ _ (h, p, q)
         (chosen (eqb-false r.current_state state_end e) (chance_draw E.source.chance s.place)
-        (chance-ok Refusal E.source C.refuses s.place)))
+        (chance_ok Refusal E.source C.refuses s.place)))
       where
         chosen : Alive r → (x : ChanceDrawn) → ChanceOk Refusal x → Stays K (drawn z E (row_of E r) event r s a x)
         chosen l (Refused n) o = o
@@ -213,28 +213,28 @@ module _ (E : Env) (K : Kept) (C : Closed E K) where
   zero-kept zero r s a h p q = (h, p, q)
   zero-kept (suc k) r s a h p q = by-kept (zero_transition k E) (zero-kept k) counter_zero r s a h p q
 
-  pub transition-kept : (event : ℕ) → Again (transition E event)
-  transition-kept event r s a h p q = by-kept (zero_transition counter_num E) (zero-kept counter_num) event r s a h p q
+  pub transition_kept : (event : ℕ) → Again (transition E event)
+  transition_kept event r s a h p q = by-kept (zero_transition counter_num E) (zero-kept counter_num) event r s a h p q
 
   -- ---- the fall of the state limit, and a whole turn
-  pub decrement-kept : Again (decrement_limit E)
+  pub decrement_kept : Again (decrement_limit E)
   unfolding decrement_limit
-  decrement-kept r s a h p q =
+  decrement_kept r s a h p q =
       let k = C.falls r h in
       either (Stays K) (eqb (r.state_limit - 1) 0 && has_limit (row_of E r)) _ _
-      (transition-kept limit_reached (with_state r r.current_state (r.state_limit - 1)) s no_action k C.clears q)
+      (transition_kept limit_reached (with_state r r.current_state (r.state_limit - 1)) s no_action k C.clears q)
       (k, p, q)
 
   -- the machine as the event counts it
-  pub turn-kept : (kind : ℕ) (falls : Bool) (blocked : ℕ) (r : MachineRuntime) (s : Shared) (a : TriggerAction)
+  pub turn_kept : (kind : ℕ) (falls : Bool) (blocked : ℕ) (r : MachineRuntime) (s : Shared) (a : TriggerAction)
       → Machine (counted_by kind blocked r) → Action a → Signal s.signal_pending → Stays K (turn E kind falls blocked r s a)
   unfolding turn
-  turn-kept kind falls blocked r s a h p q =
+  turn_kept kind falls blocked r s a h p q =
       after (transition E (event_of kind) (counted_by kind blocked r) s a)
-      (transition-kept (event_of kind) (counted_by kind blocked r) s a h p q)
+      (transition_kept (event_of kind) (counted_by kind blocked r) s a h p q)
     where
       after : (x : Stepped) → Stays K x → Stays K (after_transition E falls x)
       after (Refused n) o = o
       after (Done d) o =
           either (Stays K) (falls && not d.changed && not (eqb d.runtime.current_state state_end)) _ _
-          (decrement-kept d.runtime d.shared d.action o.0 o.1 o.2) o
+          (decrement_kept d.runtime d.shared d.action o.0 o.1 o.2) o

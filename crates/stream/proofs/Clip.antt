@@ -81,9 +81,9 @@ module _ (ws : List ℕ) (end : ℕ) (is : end ≡ within ws (end_at ws)) where
   pub ends : end ≡ length ws → end_at ws ≡ length ws
   ends h = omega arith
 
-  pub wrong-end : (end ≡ length ws → ⊥) → 21 ≡ check_of ws
+  pub wrong_end : (end ≡ length ws → ⊥) → 21 ≡ check_of ws
   unfolding check_of
-  wrong-end h = rw (ne_eqb (end_at ws) (length ws) (λ e. h (is ∙ omega (arith, e))))
+  wrong_end h = rw (ne_eqb (end_at ws) (length ws) (λ e. h (is ∙ omega (arith, e))))
 
   -- the chance words, cut out between two places, decide
   pub right_end : (b : Bool) (l : Layout) (cs : List ℕ) → end ≡ length ws → l ≡ places_of ws

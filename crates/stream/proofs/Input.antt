@@ -21,16 +21,16 @@ size_fits n h = by_size (ltb 65536 n) refl (cond (eqb (n % 8) 0) 0 21) h
     by_size false e m z = ltb-false _ _ e
 
 module _ (bs ws : List ℕ) where
-  pub size-refused : (size_refusal (length bs) ≡ 0 → ⊥) → (21 ≡ input_refusal bs) × (ws ≡ loaded bs ws)
+  pub size_refused : (size_refusal (length bs) ≡ 0 → ⊥) → (21 ≡ input_refusal bs) × (ws ≡ loaded bs ws)
   unfolding input_refusal loaded
-  size-refused h = let e = ne_eqb (size_refusal (length bs)) 0 h in (rw e, rw e)
+  size_refused h = let e = ne_eqb (size_refusal (length bs)) 0 h in (rw e, rw e)
 
-  pub size-taken : (out : List ℕ) (r : ℕ) → size_refusal (length bs) ≡ 0
+  pub size_taken : (out : List ℕ) (r : ℕ) → size_refusal (length bs) ≡ 0
       → out ≡ words_to bs (length bs / 8) ++ drop (length bs / 8) ws
       → r ≡ check_of (take (length bs / 8) out)
       → (r ≡ input_refusal bs) × (out ≡ loaded bs ws)
   unfolding input_refusal loaded input_words
-  size-taken out r h o q =
+  size_taken out r h o q =
       let n : ℕ = length bs / 8 in
       let e = eq-eqb (size_refusal (length bs)) 0 h in
       let t : take n out ≡ words_to bs n =
@@ -38,13 +38,13 @@ module _ (bs ws : List ℕ) where
       (rw e (q ∙ ap check_of t), rw e o)
 
   -- an accepted input stands at the start of the words, whole
-  pub taken-up : (out : List ℕ) → input_refusal bs ≡ 0 → out ≡ loaded bs ws
+  pub taken_up : (out : List ℕ) → input_refusal bs ≡ 0 → out ≡ loaded bs ws
       → (take (length bs / 8) out ≡ input_words bs)
       × (check_of (input_words bs) ≡ 0)
       × (length (input_words bs) ≡ length bs / 8)
       × (length bs ≤ 65536)
   unfolding input_refusal loaded input_words
-  taken-up out h o = by_size (eqb (size_refusal (length bs)) 0) refl h o
+  taken_up out h o = by_size (eqb (size_refusal (length bs)) 0) refl h o
     where
       by_size : (b : Bool) → eqb (size_refusal (length bs)) 0 ≡ b
           → cond b (check_of (input_words bs)) 21 ≡ 0

@@ -11,12 +11,12 @@ use Rattle.tables.specs.Machine.{each_state, states_refusal}
 
 -- one row of w words
 module _ (w : ℕ) (table : List ℕ) (i : ℕ) where
-  pub one-row : take (i * w + w - i * w) (drop (i * w) table) ≡ rows_of w table i 1
+  pub one_row : take (i * w + w - i * w) (drop (i * w) table) ≡ rows_of w table i 1
   unfolding rows_of
-  one-row = let e : i * w + w - i * w ≡ 1 * w = omega arith in rw e
+  one_row = let e : i * w + w - i * w ≡ 1 * w = omega arith in rw e
 
-  pub one-length : i * w + w ≤ length table → length (take (i * w + w - i * w) (drop (i * w) table)) ≡ w
-  one-length h = simp (length-take, length-drop) (omega arith)
+  pub one_length : i * w + w ≤ length table → length (take (i * w + w - i * w) (drop (i * w) table)) ≡ w
+  one_length h = simp (length-take, length-drop) (omega arith)
 
 -- n rows of w words
 module _ (w : ℕ) (table : List ℕ) (first n : ℕ) where
@@ -24,8 +24,8 @@ module _ (w : ℕ) (table : List ℕ) (first n : ℕ) where
   unfolding rows_of
   more_rows = let e : first * w + n * w - first * w ≡ n * w = omega arith in rw e
 
-  pub more-length : first * w + n * w ≤ length table → length (take (first * w + n * w - first * w) (drop (first * w) table)) ≡ n * w
-  more-length h = simp (length-take, length-drop) (omega arith)
+  pub more_length : first * w + n * w ≤ length table → length (take (first * w + n * w - first * w) (drop (first * w) table)) ≡ n * w
+  more_length h = simp (length-take, length-drop) (omega arith)
 
 -- ---- a machine's states
 module _ (states ts : List ℕ) (first n : ℕ) (some : n ≡ 0 → ⊥) (few : n ≤ state_max) where

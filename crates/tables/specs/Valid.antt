@@ -114,9 +114,9 @@ pub record ValidMachine (states ts row : List ℕ) : Type 0 where
       ValidState ts (get_or row num_states 0) (state_of states row state)
 
 pub record Whole (machines states ts : List ℕ) : Type 0 where
-  pub machine-rows : length machines % machine_words ≡ 0
-  pub state-rows : length states % state_words ≡ 0
-  pub transition-rows : length ts % transition_words ≡ 0
+  pub machine_rows_lem : length machines % machine_words ≡ 0
+  pub state_rows_lem : length states % state_words ≡ 0
+  pub transition_rows_lem : length ts % transition_words ≡ 0
   pub most : length machines / machine_words ≤ machine_max
 
 pub record Valid (machines states ts : List ℕ) : Type 0 where

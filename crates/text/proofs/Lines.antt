@@ -70,10 +70,10 @@ module _ (a b c : ℕ) (rows o : List ℕ) where
   Lined i at out = Upto o (L ++ row_lines i rows) at out
 
   -- a row more
-  pub one-row : (out out' : List ℕ) (at i : ℕ) → Lined i at out → out' ≡ row_in at rows i out
+  pub one_row : (out out' : List ℕ) (at i : ℕ) → Lined i at out → out' ≡ row_in at rows i out
       → Lined (i + 1) (at + 41) out'
   unfolding row_lines row_in
-  one-row out out' at i u y =
+  one_row out out' at i u y =
       let w : List ℕ = row_line (drop (row_words * i) rows) in
       rw (add-one, ← append_assoc L (row_lines i rows) w)
       (more w 41 (length-row_line (drop (row_words * i) rows)) u y)
@@ -100,7 +100,7 @@ module _ (a b c : ℕ) (rows o o₁ : List ℕ) (e : o₁ ≡ call_line a b c ++
       }
 
   -- all rows
-  pub all-rows : (out : List ℕ) (at i : ℕ) → 15 ≤ at → i ≡ c → Lined a b c rows o₁ i at out
+  pub all_rows_lem : (out : List ℕ) (at i : ℕ) → 15 ≤ at → i ≡ c → Lined a b c rows o₁ i at out
       → out ≡ call_text a b c rows ++ drop at o
   unfolding call_text
-  all-rows out at i h z u = rw (z, behind at h) at u.is
+  all_rows_lem out at i h z u = rw (z, behind at h) at u.is

@@ -1,4 +1,4 @@
--- Where the short way holds, it is the machine's turn: `kept-turn`, `acted-turn`. Assumes nothing.
+-- Where the short way holds, it is the machine's turn: `kept_turn`, `acted_turn`. Assumes nothing.
 use Rattle.std.specs.Prelude.{ℕ, List, Bool, cond, not, ◌&&◌, ◌||◌, ◌≡◌}
 use Rattle.std.proofs.Math.Bool.{true, false}
 use Rattle.std.proofs.lemmas.Bool.{false≢true}
@@ -144,11 +144,11 @@ module _ (n : ℕ) (E : Env) (falls : Bool) (r : MachineRuntime) (s : Shared) (p
       by false false true x y e = refl
       by false false false x y e = settled (state_row E.rows next) next (eqb r.current_state next) refl e
 
-  pub kept-turn : (next : Next) {d : Moved} → short E.rows E.source.values E.context falls next r s ≡ Kept d →
+  pub kept_turn : (next : Next) {d : Moved} → short E.rows E.source.values E.context falls next r s ≡ Kept d →
       after_transition E falls (going_at n E next r s p) ≡ Done (step_after r s p d)
-  kept-turn next e = rw e at (says next)
+  kept_turn next e = rw e at (says next)
 
-  pub acted-turn : (next : Next) {a : TriggerAction} {d : Moved} →
+  pub acted_turn : (next : Next) {a : TriggerAction} {d : Moved} →
       short E.rows E.source.values E.context falls next r s ≡ Acted a d →
       after_transition E falls (going_at n E next r s p) ≡ Done (step_after r s a d)
-  acted-turn next e = rw e at (says next)
+  acted_turn next e = rw e at (says next)

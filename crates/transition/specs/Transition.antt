@@ -61,11 +61,11 @@ module _ (zero_transition : MachineRuntime → Shared → TriggerAction → Step
     either false true d = refl
     either false false d = after d
 
-    pub transition-is : Quiet E →
+    pub transition_is : Quiet E →
         transition_by zero_transition E event r s p
         ≡ on_choice r s p (choose E.rows E.transitions E.source.chance r.current_state event s.place)
     unfolding transition_by choose idle
-    transition-is quiet =
+    transition_is quiet =
         rw (quiet event E.context.machine s.place)
         (either (eqb r.current_state state_end) (eqb (count_of (state_row E.rows r.current_state) event) 0)
         (chance_draw E.source.chance s.place))
@@ -73,7 +73,7 @@ module _ (zero_transition : MachineRuntime → Shared → TriggerAction → Step
 pub transition_by_lem : (n : ℕ) (E : Env) → Quiet E → (event : ℕ) (r : MachineRuntime) (s : Shared) (p : TriggerAction) {x : Choice} →
     choose E.rows E.transitions E.source.chance r.current_state event s.place ≡ x →
     transition_at n E event r s p ≡ on_choice (zero_transition n E) E r s p x
-transition_by_lem n E quiet event r s p e = rw (transition-is (zero_transition n E) E event r s p quiet, e)
+transition_by_lem n E quiet event r s p e = rw (transition_is (zero_transition n E) E event r s p quiet, e)
 
 -- what a turn is, by its choice
 module _ (E : Env) (quiet : Quiet E) (kind blocked : ℕ) (falls : Bool) (r : MachineRuntime) (s : Shared) (p : TriggerAction) where
@@ -82,14 +82,14 @@ module _ (E : Env) (quiet : Quiet E) (kind blocked : ℕ) (falls : Bool) (r : Ma
   unfolding turn
   turn_by x e = rw (transition_by_lem counter_num E quiet (event_of kind) (counted_by kind blocked r) s p e)
 
-  pub turn-missing : {why : ℕ} →
+  pub turn_missing : {why : ℕ} →
       choose E.rows E.transitions E.source.chance r.current_state (event_of kind) s.place ≡ Refused why →
       turn E kind falls blocked r s p ≡ Refused why
-  turn-missing e = turn_by (Refused _) e
+  turn_missing e = turn_by (Refused _) e
 
-  pub turn-chosen : {next : Next} {at : Place} →
+  pub turn_chosen : {next : Next} {at : Place} →
       choose E.rows E.transitions E.source.chance r.current_state (event_of kind) s.place ≡ Chosen next at →
       turn E kind falls blocked r s p
       ≡ after_transition E falls (going_at counter_num E next (counted_by kind blocked r) (with_place s at) p)
   unfolding going_at
-  turn-chosen e = turn_by (Chosen _ _) e
+  turn_chosen e = turn_by (Chosen _ _) e

@@ -22,7 +22,7 @@ state-rows-requires : tie.Need-state-rows-requires
 state-rows-requires c κs = search rules
 
 returns : tie.Need-returns
-returns c = rw (c.state-rows.ensures, c.before.before.word.ensures, c.before.word2.ensures)
+returns c = rw (c.state_rows_lem.ensures, c.before.before.word.ensures, c.before.word2.ensures)
 
 pub states-of-spec : {M : Type 1} → statement M
 states-of-spec =

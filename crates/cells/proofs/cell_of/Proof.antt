@@ -6,7 +6,7 @@ use native.Mathlib.Omega.{arith}
 use native.Mathlib.Nat.{pow-le-pow_right, pow-suc}
 use lib.ListN.{take}
 use Rattle.columns.specs.ByColumn.{rests}
-use Rattle.cells.proofs.Columns.{first-digit, first-space, stops, on_column, below, below_next, grows, ends}
+use Rattle.cells.proofs.Columns.{first_digit, first_space, stops, on_column, below, below_next, grows, ends}
 use Rattle.cells.proofs.cell_of.Statement.{statement}
 use Rattle.cells.proofs.cell_of.Tie as tie
 
@@ -25,12 +25,12 @@ no-cell-requires c κs = search rules
 returns : tie.Need-returns invariant-loop decreases-loop
 returns c =
     let a = c.before.before.before.before.args in
-    c.no_cell.ensures ∙ first-digit a.bytes.now c.before.if1.true
+    c.no_cell.ensures ∙ first_digit a.bytes.now c.before.if1.true
 
 loop-holds : tie.Need-loop-init invariant-loop decreases-loop
 loop-holds c =
     let a = c.before.before.before.args in
-    (omega arith, omega arith, omega arith, first-space a.bytes.now (omega arith) (omega (arith, c.if1.false)))
+    (omega arith, omega arith, omega arith, first_space a.bytes.now (omega arith) (omega (arith, c.if1.false)))
 
 shared-slice-read-read-on : tie.Need-shared-slice-read-read-on invariant-loop decreases-loop
 shared-slice-read-read-on c = search rules

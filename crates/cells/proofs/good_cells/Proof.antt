@@ -4,7 +4,7 @@ use mathlib.Core.Path.{refl}
 use mathlib.Core.Bool.{true, false}
 use native.Mathlib.Omega.{arith}
 use Rattle.cells.specs.Cells.{word_columns, is_cell}
-use Rattle.cells.specs.Laws.{Passed, passed_none, passed-more, passed-fails, passed-all}
+use Rattle.cells.specs.Laws.{Passed, passed_none, passed_more, passed_fails, passed_all}
 use Rattle.cells.proofs.Columns.{good_at}
 use borrow.Author.Rules.{rules}
 use Rattle.cells.proofs.good_cells.Statement.{statement}
@@ -47,19 +47,19 @@ loop-again : tie.Need-loop-preserved invariant-loop decreases-loop
 loop-again c =
     let a = c.before.before.before.before.before.before.args in
     let l = c.before.before.before.before.loop in
-    (omega arith, passed-more is_cell word_columns a.words a.bytes.now l.i (omega arith) l.invariant.1 (good_at _ a.bytes.now (word_columns * l.i) _ true refl c.before.cell-of.ensures c.if1.true))
+    (omega arith, passed_more is_cell word_columns a.words a.bytes.now l.i (omega arith) l.invariant.1 (good_at _ a.bytes.now (word_columns * l.i) _ true refl c.before.cell-of.ensures c.if1.true))
 
 returns : tie.Need-returns invariant-loop decreases-loop
 returns c =
     let a = c.before.before.before.before.before.before.args in
     let l = c.before.before.before.before.loop in
-    passed-fails is_cell word_columns a.words a.bytes.now l.i (omega arith) l.invariant.1 (good_at _ a.bytes.now (word_columns * l.i) _ false refl c.before.cell-of.ensures c.if1.false)
+    passed_fails is_cell word_columns a.words a.bytes.now l.i (omega arith) l.invariant.1 (good_at _ a.bytes.now (word_columns * l.i) _ false refl c.before.cell-of.ensures c.if1.false)
 
 returns-2 : tie.Need-returns-2 invariant-loop decreases-loop
 returns-2 c =
     let a = c.before.before.before.args in
     let l = c.before.loop in
-    passed-all is_cell word_columns a.words a.bytes.now l.i (omega arith) l.invariant.1
+    passed_all is_cell word_columns a.words a.bytes.now l.i (omega arith) l.invariant.1
 
 pub good-cells-spec : {M : Type 1} → statement M
 good-cells-spec =

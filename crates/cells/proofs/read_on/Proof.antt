@@ -1,16 +1,16 @@
 -- `cells::read_on` meets its contract: one case for each arm.
 use mathlib.Core.Path.{sym, ◌∙◌}
 use native.Mathlib.Omega.{arith}
-use Rattle.cells.proofs.Columns.{before-digits, behind-digits, no_digit, leading-zero, one_digit}
+use Rattle.cells.proofs.Columns.{before_digits, behind_digits, no_digit, leading_zero, one_digit}
 use borrow.Author.Rules.{rules}
 use Rattle.cells.proofs.read_on.Statement.{statement}
 use Rattle.cells.proofs.read_on.Tie as tie
 
 returns : tie.Need-returns
-returns c = before-digits _ _ c.before.if1.true c.if2.true
+returns c = before_digits _ _ c.before.if1.true c.if2.true
 
 returns-2 : tie.Need-returns-2
-returns-2 c = behind-digits _ _ c.before.if1.true c.if2.false
+returns-2 c = behind_digits _ _ c.before.if1.true c.if2.false
 
 is-digit-requires : tie.Need-is-digit-requires
 is-digit-requires c κs = search rules
@@ -29,7 +29,7 @@ returns-3 c =
     let a = c.before.before.before.before.before.args in
     let d = sym c.before.before.before.is_digit.ensures ∙ c.before.before.if3.true in
     let v = c.before.digit.ensures.0 in
-    leading-zero a.n a.b c.before.before.before.before.if1.false d (omega (arith, c.if4.true))
+    leading_zero a.n a.b c.before.before.before.before.if1.false d (omega (arith, c.if4.true))
 
 returns-4 : tie.Need-returns-4
 returns-4 c =

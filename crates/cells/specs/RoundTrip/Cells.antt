@@ -6,7 +6,7 @@ use Rattle.columns.specs.Fits.{length-right, length-rights}
 use Rattle.cells.specs.Cells.{each, word_columns, cells, leading, is_cell, cell_of, word_in}
 use Rattle.cells.specs.Laws.{cell_columns, columns_cell, spells}
 use Rattle.cells.specs.RoundTrip.U64.{Words, one_word}
-use Rattle.cells.specs.RoundTrip.Pieces.{Kept, Exact, Found, leading-written, table-written, found}
+use Rattle.cells.specs.RoundTrip.Pieces.{Kept, Exact, Found, leading_written, table_written, found}
 
 -- ---- one cell
 
@@ -61,13 +61,13 @@ each_cell (word ∷ row) = rw (append-nil (right word_columns word), each_cell r
 pub row_found : (row rest : List ℕ) → Words row → leading is_cell word_columns (length row) (cells row ++ rest) ≡ length row
 unfolding leading
 row_found row rest h =
-    let w = leading-written cells word_in is_cell 1 word_columns kept (length row) 0 row rest (omega arith) h in
+    let w = leading_written cells word_in is_cell 1 word_columns kept (length row) 0 row rest (omega arith) h in
     rw (add-zero (length row), each_cell row) at w
 
 -- and read back
 pub row_read : (row rest : List ℕ) → Words row → each word_in word_columns (length row) (cells row ++ rest) ≡ row
 row_read row rest h =
-    let w = table-written cells word_in is_cell 1 word_columns kept (length row) row rest (omega arith) h in
+    let w = table_written cells word_in is_cell 1 word_columns kept (length row) row rest (omega arith) h in
     rw (each_cell row) at w
 
 -- n cells at the front of a text are what is written for their words

@@ -48,11 +48,11 @@ module _ (put get : List ℕ → List ℕ) (test : List ℕ → Bool) (size step
       (length-take-le size table (omega arith), length-drop size table ∙ omega arith)
 
   -- the pieces of a table are found, and then those of the text behind it
-  pub leading-written : (n k : ℕ) (table rest : List ℕ) → length table ≡ size * n → Words table
+  pub leading_written : (n k : ℕ) (table rest : List ℕ) → length table ≡ size * n → Words table
       → leading test step (n + k) (each put size n table ++ rest) ≡ n + leading test step k rest
   unfolding leading each
-  leading-written zero k table rest l h = simp zero-add
-  leading-written (suc n) k table rest l h =
+  leading_written zero k table rest l h = simp zero-add
+  leading_written (suc n) k table rest l h =
       let f = fewer n table l in
       let row = take size table in
       let more = each put size n (drop size table) in
@@ -63,17 +63,17 @@ module _ (put get : List ℕ → List ℕ) (test : List ℕ → Bool) (size step
         take_at (put row) (more ++ rest) step long,
         drop_at (put row) (more ++ rest) step long,
         kept.passes row f.0 (words_take size table h),
-        leading-written n k (drop size table) rest f.1 (words_drop size table h),
+        leading_written n k (drop size table) rest f.1 (words_drop size table h),
       )
       (sym (suc-add n (leading test step k rest)))
 
   -- and are read back
-  pub table-written : (n : ℕ) (table rest : List ℕ) → length table ≡ size * n → Words table
+  pub table_written : (n : ℕ) (table rest : List ℕ) → length table ≡ size * n → Words table
       → each get step n (each put size n table ++ rest) ≡ table
   unfolding each
-  table-written zero [] rest l h = refl
-  table-written zero (x ∷ xs) rest l h = absurd (omega (arith, l, mul-zero size))
-  table-written (suc n) table rest l h =
+  table_written zero [] rest l h = refl
+  table_written zero (x ∷ xs) rest l h = absurd (omega (arith, l, mul-zero size))
+  table_written (suc n) table rest l h =
       let f = fewer n table l in
       let row = take size table in
       let more = each put size n (drop size table) in
@@ -83,7 +83,7 @@ module _ (put get : List ℕ → List ℕ) (test : List ℕ → Bool) (size step
         take_at (put row) (more ++ rest) step long,
         drop_at (put row) (more ++ rest) step long,
         kept.back row f.0 (words_take size table h),
-        table-written n (drop size table) rest f.1 (words_drop size table h),
+        table_written n (drop size table) rest f.1 (words_drop size table h),
       )
       (take-append-drop size table)
 

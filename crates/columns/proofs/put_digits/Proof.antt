@@ -7,7 +7,7 @@ use native.Mathlib.Omega.{arith}
 use lib.ListN.{length, length-set}
 use borrow.Author.Tests.{leb-true, leb-false}
 use Rattle.columns.specs.Parts.{digits_in}
-use Rattle.columns.proofs.Places.{two-more}
+use Rattle.columns.proofs.Places.{two_more}
 use Rattle.columns.proofs.put_digits.Statement.{statement}
 use Rattle.columns.proofs.put_digits.Tie as tie
 
@@ -64,7 +64,7 @@ loop-again c =
       omega arith,
       omega (arith, l.invariant.1),
       simp length-set l.invariant.2,
-      two-more l.line a.at l.rest l.i (omega (arith, l.invariant.1, l.invariant.2)) (omega arith) c.before.loop-test.true ∙ l.invariant.3,
+      two_more l.line a.at l.rest l.i (omega (arith, l.invariant.1, l.invariant.2)) (omega arith) c.before.loop-test.true ∙ l.invariant.3,
     )
 
 put-rest-requires : tie.Need-put-rest-requires invariant-loop decreases-loop

@@ -4,7 +4,7 @@ use Prim.Native.Nat.{ℕ, ◌+◌}
 use mathlib.Core.Path.{ap, ◌∙◌}
 use mathlib.Core.List.{List}
 use Rattle.columns.specs.Parts.{digits_in}
-use Rattle.columns.proofs.Places.{over-spaces}
+use Rattle.columns.proofs.Places.{over_spaces}
 use Rattle.columns.proofs.put_number.Statement.{statement}
 use Rattle.columns.proofs.put_number.Tie as tie
 
@@ -26,7 +26,7 @@ returns c =
     let a = s.before.before.before.args in
     c.before.before.put-digits.ensures
     ∙ ap (λ (l : List ℕ). digits_in a.at (a.at + a.width) a.n l) s.put-spaces.ensures
-    ∙ over-spaces a.line.now a.at a.width a.n s.before.before.before.requires
+    ∙ over_spaces a.line.now a.at a.width a.n s.before.before.before.requires
 
 pub put-number-spec : {M : Type 1} → statement M
 put-number-spec =

@@ -4,7 +4,7 @@ use Prim.Native.Nat.{◌-◌, ◌≤◌}
 use mathlib.Core.Path.{◌≡◌, refl, ◌∙◌}
 use native.Mathlib.Omega.{arith}
 use lib.ListN.{length}
-use Rattle.columns.proofs.Numbers.{Stand, no_number, room, one_number, all-numbers}
+use Rattle.columns.proofs.Numbers.{Stand, no_number, room, one_number, all_numbers}
 use Rattle.columns.proofs.put_numbers.Statement.{statement}
 use Rattle.columns.proofs.put_numbers.Tie as tie
 
@@ -64,7 +64,7 @@ returns : tie.Need-returns invariant-loop decreases-loop
 returns c =
     let a = c.before.before.before.before.args in
     let l = c.before.loop in
-    all-numbers a.width a.numbers.now a.line.now l.line l.at l.i (omega arith) l.invariant.2
+    all_numbers a.width a.numbers.now a.line.now l.line l.at l.i (omega arith) l.invariant.2
 
 pub put-numbers-spec : {M : Type 1} → statement M
 put-numbers-spec =

@@ -5,7 +5,7 @@ use mathlib.Core.Path.{sym, ap, ◌∙◌}
 use native.Mathlib.Omega.{arith}
 use lib.ListN.{length-set}
 use Rattle.columns.specs.Parts.{digits_in}
-use Rattle.columns.proofs.Places.{no_digit, first-digit, one_left, two-left}
+use Rattle.columns.proofs.Places.{no_digit, first_digit, one_left, two_left}
 use Rattle.columns.proofs.put_rest.Statement.{statement}
 use Rattle.columns.proofs.put_rest.Tie as tie
 
@@ -32,7 +32,7 @@ same_length c = search rules
 returns-2 : tie.Need-returns-2
 returns-2 c =
     let a = c.before.before.args in
-    first-digit a.line.now a.at a.n a.end (a.end - 1) (omega arith) (omega arith) (omega arith) c.if2.true
+    first_digit a.line.now a.at a.n a.end (a.end - 1) (omega arith) (omega arith) (omega arith) c.if2.true
 
 cast-line-2 : tie.Need-overflow-cast-line-2
 cast-line-2 c = search rules
@@ -69,7 +69,7 @@ same-length-2 c = search rules
 returns-3 : tie.Need-returns-3
 returns-3 c =
     let a = c.before.before.before.args in
-    two-left a.line.now a.at a.n a.end (omega arith) (omega arith) (omega arith) (c.before.before.before.requires.2 (omega arith))
+    two_left a.line.now a.at a.n a.end (omega arith) (omega arith) (omega arith) (c.before.before.before.requires.2 (omega arith))
 
 same-length-3 : tie.Need-same-length-3
 same-length-3 c = search rules

@@ -6,7 +6,7 @@ use native.Mathlib.Omega.{arith}
 use mathlib.Core.List.{List}
 use lib.ListN.{length, set, length-set}
 use Rattle.columns.specs.Parts.{spaces_in}
-use Rattle.columns.proofs.Places.{no-space, one-space}
+use Rattle.columns.proofs.Places.{no_space, one_space}
 use Rattle.columns.proofs.put_spaces.Statement.{statement}
 use Rattle.columns.proofs.put_spaces.Tie as tie
 
@@ -17,7 +17,7 @@ abbrev decreases-loop : tie.decreases-loop
 decreases-loop line₀ at end i₀ line i = end - i
 
 loop-holds : tie.Need-loop-init invariant-loop decreases-loop
-loop-holds c = let a = c.args in (omega arith, c.requires.0, refl, sym (no-space a.line.now a.at))
+loop-holds c = let a = c.args in (omega arith, c.requires.0, refl, sym (no_space a.line.now a.at))
 
 slice-write-line : tie.Need-slice-write-line invariant-loop decreases-loop
 slice-write-line c = search rules
@@ -35,7 +35,7 @@ loop-again c =
       omega (arith, l.invariant.0),
       omega arith,
       length-set l.line l.i 32 ∙ l.invariant.2,
-      ap (λ (x : List ℕ). set x l.i 32) l.invariant.3 ∙ one-space a.line.now a.at l.i l.invariant.0 (omega arith),
+      ap (λ (x : List ℕ). set x l.i 32) l.invariant.3 ∙ one_space a.line.now a.at l.i l.invariant.0 (omega arith),
     )
 
 same_length : tie.Need-same-length invariant-loop decreases-loop

@@ -1,7 +1,7 @@
 -- `columns_link::put` meets its contract.
 use borrow.Author.Rules.{rules}
 use lib.ListN.{length}
-use Rattle.columns_link.proofs.Cases.{inside, outside, no_room, all-put}
+use Rattle.columns_link.proofs.Cases.{inside, outside, no_room, all_put}
 use Rattle.columns_link.proofs.put.Statement.{statement}
 use Rattle.columns_link.proofs.put.Tie as tie
 
@@ -37,7 +37,7 @@ returns-2 : tie.Need-returns-2
 returns-2 c =
     let s = c.before.before.before.before.before.before.before in
     let a = s.args in
-    all-put a.width a.numbers.now a.text.now c.before.before.put-numbers.new.0
+    all_put a.width a.numbers.now a.text.now c.before.before.put-numbers.new.0
     (inside a.width (length a.numbers.now) (length a.text.now) s.requires c.before.before.before.before.if1.false)
     c.before.before.put-numbers.ensures
 

@@ -5,7 +5,7 @@ use Prim.Native.Nat.{◌-◌}
 use mathlib.Core.Path.{◌≡◌, refl, ◌∙◌}
 use lib.ListN.{length, drop}
 use Rattle.machine.specs.Words.{word_value}
-use Rattle.dists.proofs.Word.{word-ends, word_next, word-serves}
+use Rattle.dists.proofs.Word.{word_ends, word_next, word_serves}
 use Rattle.dists.proofs.word_value.Statement.{statement}
 use Rattle.dists.proofs.word_value.Tie as tie
 
@@ -24,7 +24,7 @@ returns : tie.Need-returns invariant-loop decreases-loop
 returns c =
     let a = c.before.before.before.args in
     let l = c.before.loop in
-    rw (l.invariant ∙ word-ends a.low a.high a.words.now a.at.chance_at l.i c.if1.true)
+    rw (l.invariant ∙ word_ends a.low a.high a.words.now a.at.chance_at l.i c.if1.true)
 
 mul-value-of : tie.Need-overflow-mul-value-of invariant-loop decreases-loop
 mul-value-of c = search rules
@@ -53,7 +53,7 @@ returns-2 c =
     let a = c.before.before.before.before.before.before.args in
     let l = c.before.before.before.before.loop in
     rw (
-      l.invariant ∙ word-serves a.low a.high a.words.now a.at.chance_at l.i (omega arith)
+      l.invariant ∙ word_serves a.low a.high a.words.now a.at.chance_at l.i (omega arith)
           (rw c.before.value_of.ensures at c.if2.false),
       c.before.value_of.ensures,
     )

@@ -1,6 +1,6 @@
 -- `due::due_list` meets its contract: an answer for each of its three tests.
 use mathlib.Core.Path.{refl}
-use Rattle.due.proofs.Listed.{not-whole, unknown-kind, no_room, accepted}
+use Rattle.due.proofs.Listed.{not_whole, unknown_kind, no_room, accepted}
 use borrow.Author.Rules.{rules}
 use Rattle.due.proofs.due_list.Statement.{statement}
 use Rattle.due.proofs.due_list.Tie as tie
@@ -39,7 +39,7 @@ returns-3 c =
     let e = c.before in
     let a = e.before.before.before.before.before.args in
     let k = e.before.kinds-known in
-    unknown-kind a.rows.now a.out.now e.before.before.if1.true k.result k.ensures _ c.refused2.ensures e.if2.false
+    unknown_kind a.rows.now a.out.now e.before.before.if1.true k.result k.ensures _ c.refused2.ensures e.if2.false
 
 refused-requires-3 : tie.Need-refused-requires-3
 refused-requires-3 c κs = search rules
@@ -47,7 +47,7 @@ refused-requires-3 c κs = search rules
 returns-4 : tie.Need-returns-4
 returns-4 c =
     let a = c.before.before.before.before.args in
-    not-whole a.rows.now a.out.now _ c.refused3.ensures c.before.if1.false
+    not_whole a.rows.now a.out.now _ c.refused3.ensures c.before.if1.false
 
 pub due-list-spec : {M : Type 1} → statement M
 due-list-spec =

@@ -10,11 +10,11 @@ use Rattle.machine.specs.Words.{lent}
 use Rattle.steps.specs.Events.{each, event_turn}
 use Rattle.steps.specs.Framework.{begin}
 use Rattle.steps.specs.declared.Ran.{Ran}
-use Rattle.transition.specs.Short.{kept-turn, acted-turn}
+use Rattle.transition.specs.Short.{kept_turn, acted_turn}
 use Rattle.transition.specs.Transition.{at_most}
 use Rattle.events.specs.Run.{tables, ran_from}
 use Rattle.events.proofs.Counts.{kind_fits, event_small}
-use Rattle.events.proofs.Turns.{Ahead, all_ahead, ahead-missing, ahead-counts, ahead-kept, ahead-refused, ahead-done, ahead-ends, ahead-event}
+use Rattle.events.proofs.Turns.{Ahead, all_ahead, ahead_missing, ahead_counts, ahead_kept, ahead_refused, ahead_done, ahead_ends, ahead_event}
 use borrow.Author.Rules.{rules}
 use Rattle.events.proofs.run_events.Statement.{statement}
 use Rattle.events.proofs.run_events.Tie as tie
@@ -95,7 +95,7 @@ returns c =
     let states-of = c.before.before.before.before.before.before.before.before.before.states-of in
     let if1 = c.before.before.before.before.before.before.before.before.before.before.before.if1 in
     let loop = c.before.before.before.before.before.before.before.before.before.before.before.before.loop in (
-      stopped.ensures ∙ sym (ap (ran_from _) (ahead-missing loop.invariant.4 (λ _ _ _. refl) if1.true (sym (rw (states-of.ensures, event-of.ensures) at choose.ensures) ∙ choice.given.1))),
+      stopped.ensures ∙ sym (ap (ran_from _) (ahead_missing loop.invariant.4 (λ _ _ _. refl) if1.true (sym (rw (states-of.ensures, event-of.ensures) at choose.ensures) ∙ choice.given.1))),
       ap (λ (r : Ran). r.framework.machines) stopped.ensures,
     )
 
@@ -144,7 +144,7 @@ loop-again c =
       loop.invariant.1,
       λ h. loop.invariant.2 if1.true,
       loop.invariant.3,
-      rw counted-by.ensures (ahead-counts loop.invariant.4 (λ _ _ _. refl) if1.true (sym (rw (states-of.ensures, event-of.ensures) at choose.ensures) ∙ choice2.given.1)
+      rw counted-by.ensures (ahead_counts loop.invariant.4 (λ _ _ _. refl) if1.true (sym (rw (states-of.ensures, event-of.ensures) at choose.ensures) ∙ choice2.given.1)
           (sym (rw limit-falls.ensures at only-counts.ensures) ∙ if2.true)),
     )
 
@@ -211,8 +211,8 @@ loop-again-2 c =
       loop.invariant.1,
       λ h. loop.invariant.2 if1.true,
       loop.invariant.3,
-      rw (runtime-after.ensures, counted-by.ensures, shared-after.ensures) (ahead-kept loop.invariant.4 (λ _ _ _. refl) if1.true (sym (rw (states-of.ensures, event-of.ensures) at choose.ensures) ∙ choice2.given.1)
-          (kept-turn counter_num _ _ _ _ _ _ (rw (← counted-by.ensures) (sym (rw (states-of.ensures, limit-falls.ensures, context-of.ensures) at short-way.ensures) ∙ short.given.1)))),
+      rw (runtime-after.ensures, counted-by.ensures, shared-after.ensures) (ahead_kept loop.invariant.4 (λ _ _ _. refl) if1.true (sym (rw (states-of.ensures, event-of.ensures) at choose.ensures) ∙ choice2.given.1)
+          (kept_turn counter_num _ _ _ _ _ _ (rw (← counted-by.ensures) (sym (rw (states-of.ensures, limit-falls.ensures, context-of.ensures) at short-way.ensures) ∙ short.given.1)))),
     )
 
 enum-known-short-2 : tie.Need-enum-known-short-2 invariant-loop decreases-loop
@@ -278,8 +278,8 @@ loop-again-3 c =
       loop.invariant.1,
       λ h. loop.invariant.2 if1.true,
       loop.invariant.3,
-      rw (runtime-after2.ensures, counted-by.ensures, shared-after2.ensures) (ahead-done loop.invariant.4 (λ _ _ _. refl) if1.true (sym (rw (states-of.ensures, event-of.ensures) at choose.ensures) ∙ choice2.given.1)
-          (acted-turn counter_num _ _ _ _ _ _ (rw (← counted-by.ensures) (sym (rw (states-of.ensures, limit-falls.ensures, context-of.ensures) at short-way.ensures) ∙ short2.given.1)))),
+      rw (runtime-after2.ensures, counted-by.ensures, shared-after2.ensures) (ahead_done loop.invariant.4 (λ _ _ _. refl) if1.true (sym (rw (states-of.ensures, event-of.ensures) at choose.ensures) ∙ choice2.given.1)
+          (acted_turn counter_num _ _ _ _ _ _ (rw (← counted-by.ensures) (sym (rw (states-of.ensures, limit-falls.ensures, context-of.ensures) at short-way.ensures) ∙ short2.given.1)))),
     )
 
 mul-p : tie.Need-overflow-mul-p invariant-loop decreases-loop
@@ -335,7 +335,7 @@ returns-2 c =
     let limit-falls = c.before.before.before.before.before.before.before.before.before.before.before.before.before.before.before.before.before.before.before.before.before.before.before.before.before.limit-falls in
     let if1 = c.before.before.before.before.before.before.before.before.before.before.before.before.before.before.before.before.before.before.before.before.before.before.before.before.before.before.if1 in
     let loop = c.before.before.before.before.before.before.before.before.before.before.before.before.before.before.before.before.before.before.before.before.before.before.before.before.before.before.before.loop in (
-      stopped2.ensures ∙ sym (ap (ran_from _) (ahead-refused loop.invariant.4 (λ _ _ _. refl) if1.true (sym (rw (states-of.ensures, event-of.ensures) at choose.ensures) ∙ choice2.given.1)
+      stopped2.ensures ∙ sym (ap (ran_from _) (ahead_refused loop.invariant.4 (λ _ _ _. refl) if1.true (sym (rw (states-of.ensures, event-of.ensures) at choose.ensures) ∙ choice2.given.1)
           (sym (rw (limit-falls.ensures, going.ensures counter_num (at_most loop.s), states-of.ensures, context-of.ensures, counted-by.ensures) at after-transition.ensures) ∙ x.given.1))),
       ap (λ (r : Ran). r.framework.machines) stopped2.ensures,
     )
@@ -396,7 +396,7 @@ loop-again-4 c =
       loop.invariant.1,
       λ h. loop.invariant.2 if1.true,
       loop.invariant.3,
-      ahead-done loop.invariant.4 (λ _ _ _. refl) if1.true (sym (rw (states-of.ensures, event-of.ensures) at choose.ensures) ∙ choice2.given.1)
+      ahead_done loop.invariant.4 (λ _ _ _. refl) if1.true (sym (rw (states-of.ensures, event-of.ensures) at choose.ensures) ∙ choice2.given.1)
           (sym (rw (limit-falls.ensures, going.ensures counter_num (at_most loop.s), states-of.ensures, context-of.ensures, counted-by.ensures) at after-transition.ensures) ∙ x2.given.1),
     )
 
@@ -405,7 +405,7 @@ returns-3 c =
     let if3 = c.if3 in
     let if1 = c.before.if1 in
     let loop = c.before.before.loop in
-    (rw (ahead-ends loop.invariant.4 if1.false if3.true), loop.invariant.3)
+    (rw (ahead_ends loop.invariant.4 if1.false if3.true), loop.invariant.3)
 
 mul-kind : tie.Need-overflow-mul-kind invariant-loop decreases-loop
 mul-kind c =
@@ -488,7 +488,7 @@ loop-again-5 c =
       kind_fits _ _ _ if3.false (pre),
       λ h. end-for.ensures.1.1 (rw (← first-for.ensures) h),
       loop.invariant.3,
-      ahead-event loop.invariant.4 if1.false if3.false
+      ahead_event loop.invariant.4 if1.false if3.false
           blocked-for.ensures first-for.ensures (rw smaller.ensures at end-for.ensures.0)
           totals-after.ensures,
     )

@@ -8,9 +8,9 @@ use borrow.Author.Tests.{eq-eqb}
 use Rattle.steps.specs.Framework.{states_fit, ended_in, trigger_events, batch}
 use Rattle.machine.specs.Words.{lent}
 use Rattle.events.specs.Run.{tables, entered}
-use Rattle.framework.proofs.Checked.{refusal_on, passed_on, refused-on, fits_is, batch_passes}
+use Rattle.framework.proofs.Checked.{refusal_on, passed_on, refused_on, fits_is, batch_passes}
 use Rattle.framework.proofs.Ended.{one_more, at_most, one_more_fits}
-use Rattle.framework.proofs.Outcomes.{stopped-is, complete-is}
+use Rattle.framework.proofs.Outcomes.{stopped_is, complete_is}
 use Rattle.framework.proofs.batch_on.Statement.{statement}
 use Rattle.framework.proofs.batch_on.Tie as tie
 use Rattle.framework.proofs.batch_on.Reads as reads
@@ -135,7 +135,7 @@ returns c =
     let args = c.before.before.before.before.before.before.before.before.before.before.before.before.before.before.before.args in
     let T = tables args.machines.now args.states.now args.transitions.now in
     let D = lent args.chances.now args.values.now args.words.now in
-    rw (refused-on args.raw T args.t1 args.events.now args.out.now args.time D (λ z. if1.true (is ∙ z)))
+    rw (refused_on args.raw T args.t1 args.events.now args.out.now args.time D (λ z. if1.true (is ∙ z)))
     (rw is at (c.refused.ensures args.out.now), refl)
 
 trigger-events-requires : tie.Need-trigger-events-requires invariant-loop decreases-loop
@@ -174,7 +174,7 @@ returns-2 c =
     let T = tables args.machines.now args.states.now args.transitions.now in
     let D = lent args.chances.now args.values.now args.words.now in
     let es = args.events.now in
-    let stops = stopped-is (entered args.t1) (trigger_events T D args.time es args.t1) _ _
+    let stops = stopped_is (entered args.t1) (trigger_events T D args.time es args.t1) _ _
     trigger-events.ensures.0 verdict.given.1 in
     let none = sym (refusal_is c.before.before.before.before.before.before) ∙ if1.false in
     let passed = passed_on args.raw T args.t1 es args.out.now none in
@@ -194,7 +194,7 @@ returns-3 c =
     let T = tables args.machines.now args.states.now args.transitions.now in
     let D = lent args.chances.now args.values.now args.words.now in
     let es = args.events.now in
-    let ends = complete-is (entered args.t1) (trigger_events T D args.time es args.t1) _
+    let ends = complete_is (entered args.t1) (trigger_events T D args.time es args.t1) _
     trigger-events.ensures.0 enum_told.given.1 in
     let none = sym (refusal_is c.before.before.before.before.before.before.before.before) ∙ if1.false in
     let passed = passed_on args.raw T args.t1 es args.out.now none in

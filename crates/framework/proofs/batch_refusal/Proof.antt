@@ -4,7 +4,7 @@ use mathlib.Core.Path.{refl, sym, ◌∙◌}
 use borrow.Author.Tests.{lt-ltb, le-ltb}
 use Rattle.steps.specs.Framework.{batch_refusal}
 use Rattle.events.specs.Run.{tables}
-use Rattle.framework.proofs.Checked.{first_is, then_is, outside-never, outside-asked}
+use Rattle.framework.proofs.Checked.{first_is, then_is, outside_never, outside_asked}
 use Rattle.framework.proofs.batch_refusal.Statement.{statement}
 use Rattle.framework.proofs.batch_refusal.Tie as tie
 
@@ -17,7 +17,7 @@ returns c =
     let args = c.before.before.before.before.before.before.args in
     let T = tables args.machines.now args.states.now args.transitions.now in
     λ fw out says e.
-    rw (outside-never args.raw T (λ z. c.if1.true (c.before.check-tables.ensures ∙ z)))
+    rw (outside_never args.raw T (λ z. c.if1.true (c.before.check-tables.ensures ∙ z)))
     (c.before.check-tables.ensures ∙ sym (first_is _ _ (λ z. c.if1.true (c.before.check-tables.ensures ∙ z))))
 
 outside-requires : tie.Need-outside-requires
@@ -30,7 +30,7 @@ returns-2 c =
     let T = tables args.machines.now args.states.now args.transitions.now in
     λ fw out says e.
     let passed = sym at-if1.before.check-tables.ensures ∙ at-if1.if1.false in
-    rw (outside-asked args.raw T passed ∙ (sym c.before.outside.ensures ∙ c.if2.true)) refl
+    rw (outside_asked args.raw T passed ∙ (sym c.before.outside.ensures ∙ c.if2.true)) refl
 
 events-fit-requires : tie.Need-events-fit-requires
 events-fit-requires c κs = search rules
@@ -51,7 +51,7 @@ returns-3 c =
     λ fw out says e.
     let passed = sym at-if1.before.check-tables.ensures ∙ at-if1.if1.false in
     rw (
-      outside-asked args.raw T passed ∙ (sym at-outside.outside.ensures ∙ at-if2.if2.false),
+      outside_asked args.raw T passed ∙ (sym at-outside.outside.ensures ∙ at-if2.if2.false),
       then_is _ _ passed,
       sym (says passed) ∙ at-if3.if3.true,
       sym at-if4.before.events-fit.ensures ∙ at-if4.if4.true,
@@ -72,7 +72,7 @@ returns-4 c =
     λ fw out says e.
     let passed = sym at-if1.before.check-tables.ensures ∙ at-if1.if1.false in
     rw (
-      outside-asked args.raw T passed ∙ (sym at-outside.outside.ensures ∙ at-if2.if2.false),
+      outside_asked args.raw T passed ∙ (sym at-outside.outside.ensures ∙ at-if2.if2.false),
       then_is _ _ passed,
       sym (says passed) ∙ at-if3.if3.true,
       sym at-if4.before.events-fit.ensures ∙ at-if4.if4.true,
@@ -92,7 +92,7 @@ returns-5 c =
     λ fw out says e.
     let passed = sym at-if1.before.check-tables.ensures ∙ at-if1.if1.false in
     rw (
-      outside-asked args.raw T passed ∙ (sym at-outside.outside.ensures ∙ at-if2.if2.false),
+      outside_asked args.raw T passed ∙ (sym at-outside.outside.ensures ∙ at-if2.if2.false),
       then_is _ _ passed,
       sym (says passed) ∙ at-if3.if3.true,
       sym c.before.events-fit.ensures ∙ c.if4.false,
@@ -109,7 +109,7 @@ returns-6 c =
     λ fw out says e.
     let passed = sym at-if1.before.check-tables.ensures ∙ at-if1.if1.false in
     rw (
-      outside-asked args.raw T passed ∙ (sym at-outside.outside.ensures ∙ at-if2.if2.false),
+      outside_asked args.raw T passed ∙ (sym at-outside.outside.ensures ∙ at-if2.if2.false),
       then_is _ _ passed,
       sym (says passed) ∙ c.if3.false,
     ) refl

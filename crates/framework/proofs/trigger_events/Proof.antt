@@ -10,7 +10,7 @@ use Rattle.steps.specs.Framework.{begin, trigger_events}
 use Rattle.machine.specs.Words.{lent}
 use Rattle.events.specs.Run.{tables, run_of, entered}
 use Rattle.steps.specs.declared.Ran.{Ran}
-use Rattle.framework.proofs.Outcomes.{stopped-is, complete-is}
+use Rattle.framework.proofs.Outcomes.{stopped_is, complete_is}
 use Rattle.framework.proofs.trigger_events.Statement.{statement}
 use Rattle.framework.proofs.trigger_events.Tie as tie
 
@@ -30,7 +30,7 @@ returns c =
     let D = lent args.chances.now args.values.now args.words.now in
     let es = args.events.now in
     let ran = each (event_turn T D es) (length es / 2) 0 (begin args.fw args.time) in
-    let stops = stopped-is (entered args.fw) ran _ _
+    let stops = stopped_is (entered args.fw) ran _ _
     run-events.ensures.0 c.enum_told.given.1 in
     (rw stops (rw stops at run-events.ensures.0), run-events.ensures.1)
 
@@ -48,7 +48,7 @@ returns-2 c =
     let D = lent args.chances.now args.values.now args.words.now in
     let es = args.events.now in
     let ran = each (event_turn T D es) (length es / 2) 0 (begin args.fw args.time) in
-    let ends = complete-is (entered args.fw) ran _
+    let ends = complete_is (entered args.fw) ran _
     run-events.ensures.0 enum-told2.given.1 in
     (rw (ends, eq-eqb _ _ c.if1.true) (rw ends at run-events.ensures.0), run-events.ensures.1)
 
@@ -78,9 +78,9 @@ returns-3 c =
     let D = lent args.chances.now args.values.now args.words.now in
     let es = args.events.now in
     let ran = each (event_turn T D es) (length es / 2) 0 (begin args.fw args.time) in
-    let ends = complete-is (entered args.fw) ran _
+    let ends = complete_is (entered args.fw) ran _
     run-events.ensures.0 enum-told2.given.1 in
-    let stops = stopped-is (run_of run-events.result) (signals T D (run_of run-events.result)) _ _
+    let stops = stopped_is (run_of run-events.result) (signals T D (run_of run-events.result)) _ _
     run-signals.ensures.0 last.given.1 in
     (rw (ends, stops) c.stopped.ensures, ap (λ (r : Ran). r.framework.machines) c.stopped.ensures)
 
@@ -97,9 +97,9 @@ returns-4 c =
     let D = lent args.chances.now args.values.now args.words.now in
     let es = args.events.now in
     let ran = each (event_turn T D es) (length es / 2) 0 (begin args.fw args.time) in
-    let ends = complete-is (entered args.fw) ran _
+    let ends = complete_is (entered args.fw) ran _
     run-events.ensures.0 enum-told2.given.1 in
-    let done = complete-is (run_of run-events.result) (signals T D (run_of run-events.result)) _
+    let done = complete_is (run_of run-events.result) (signals T D (run_of run-events.result)) _
     run-signals.ensures.0 c.enum-told3.given.1 in
     (rw (ends, done) (rw done at run-signals.ensures.0), run-signals.ensures.1 ∙ run-events.ensures.1)
 

@@ -36,9 +36,9 @@ length_line kind row =
     length-append (right kind_columns kind) (behind_kind row)
     ∙ omega (arith, length-right kind_columns kind, length-append (cells row) (10 ∷ []), length-rights word_columns row)
 
-drop_kind : (kind : ℕ) (row : List ℕ) → drop kind_columns (line_of kind row) ≡ behind_kind row
+drop-kind : (kind : ℕ) (row : List ℕ) → drop kind_columns (line_of kind row) ≡ behind_kind row
 unfolding line_of
-drop_kind kind row = drop_at (right kind_columns kind) (behind_kind row) kind_columns (length-right kind_columns kind)
+drop-kind kind row = drop_at (right kind_columns kind) (behind_kind row) kind_columns (length-right kind_columns kind)
 
 written_is_line : (kind : ℕ) (row : List ℕ) → Words row → is_line kind (length row) (line_of kind row) ≡ true
 unfolding is_line line_of
@@ -61,7 +61,7 @@ written_is_line kind row h =
 
 written_reads : (kind : ℕ) (row : List ℕ) → Words row → words_of (length row) (line_of kind row) ≡ row
 unfolding words_of
-written_reads kind row h = rw (drop_kind kind row) (row_read row (10 ∷ []) h)
+written_reads kind row h = rw (drop-kind kind row) (row_read row (10 ∷ []) h)
 
 module _ (kind w : ℕ) where
   pub kept : Kept (line_of kind) (words_of w) (is_line kind w) w (line_bytes w)

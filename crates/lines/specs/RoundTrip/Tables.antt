@@ -13,7 +13,7 @@ use Rattle.machine.specs.Same.{same}
 use Rattle.cells.specs.Cells.{each, cells, leading}
 use Rattle.cells.specs.Laws.{length-each}
 use Rattle.cells.specs.RoundTrip.U64.{Words}
-use Rattle.cells.specs.RoundTrip.Pieces.{Found, leading_none, leading-written, table-written, found}
+use Rattle.cells.specs.RoundTrip.Pieces.{Found, leading_none, leading_written, table_written, found}
 use Rattle.lines.specs.Lines.{kind_columns, line_bytes, line_of, lines_of, is_line, words_of, lines, table_of, behind}
 use Rattle.lines.specs.RoundTrip.Lines.{kept, exact}
 
@@ -74,15 +74,15 @@ module _ (kind w : ℕ) (table : List ℕ) (whole : length table % w ≡ 0) wher
       let text = each (line_of kind) w n table ++ rest in
       let e : most ≡ n + (most - n) = omega arith in
       ap (λ (k : ℕ). leading (is_line kind w) (line_bytes w) k text) e
-      ∙ leading-written (line_of kind) (words_of w) (is_line kind w) w (line_bytes w) (kept kind w) n (most - n) table rest
+      ∙ leading_written (line_of kind) (words_of w) (is_line kind w) w (line_bytes w) (kept kind w) n (most - n) table rest
       (rows_of w table whole) h
       ∙ omega (arith, leading_none (is_line kind w) (line_bytes w) (most - n) rest (unlike_fails kind w rest u))
 
   -- as they are in the whole text
-  pub lines-written : (rest : List ℕ) → Words table → Unlike kind rest
+  pub lines_written : (rest : List ℕ) → Words table → Unlike kind rest
       → lines kind w (lines_of kind w table ++ rest) ≡ length table / w
   unfolding lines
-  lines-written rest h u =
+  lines_written rest h u =
       let text = lines_of kind w table ++ rest in
       let n = length table / w in
       let room : n * line_bytes w ≤ length text =
@@ -90,16 +90,16 @@ module _ (kind w : ℕ) (table : List ℕ) (whole : length table % w ≡ 0) wher
       counted (length text / line_bytes w) rest h u ((le-div_iff_mul-le {k = line_bytes w} (omega arith)).1 room)
 
   -- read back
-  pub table-read : (rest : List ℕ) → Words table → table_of w (length table / w) (lines_of kind w table ++ rest) ≡ table
+  pub table_read : (rest : List ℕ) → Words table → table_of w (length table / w) (lines_of kind w table ++ rest) ≡ table
   unfolding table_of lines_of
-  table-read rest h =
-      table-written (line_of kind) (words_of w) (is_line kind w) w (line_bytes w) (kept kind w) (length table / w) table rest
+  table_read rest h =
+      table_written (line_of kind) (words_of w) (is_line kind w) w (line_bytes w) (kept kind w) (length table / w) table rest
       (rows_of w table whole) h
 
   -- and followed by what stands behind them
-  pub behind-written : (rest : List ℕ) → behind w (length table / w) (lines_of kind w table ++ rest) ≡ rest
+  pub behind_written : (rest : List ℕ) → behind w (length table / w) (lines_of kind w table ++ rest) ≡ rest
   unfolding behind
-  behind-written rest = drop_at (lines_of kind w table) rest (line_bytes w * (length table / w)) (length-lines kind w table)
+  behind_written rest = drop_at (lines_of kind w table) rest (line_bytes w * (length table / w)) (length-lines kind w table)
 
 -- ---- a table that is read
 
@@ -114,9 +114,9 @@ module _ (kind w : ℕ) (text : List ℕ) where
   length-table = read.sized
 
   -- of words
-  pub words-table : Words (table_of w (lines kind w text) text)
+  pub words_table : Words (table_of w (lines kind w text) text)
   unfolding table_of
-  words-table = read.words
+  words_table = read.words
 
   -- and its lines are those that were read
   lines-again : 0 < w → lines_of kind w (table_of w (lines kind w text) text) ≡ take (line_bytes w * lines kind w text) text

@@ -7,7 +7,7 @@ use lib.ListN.{length, drop, length-take}
 use Rattle.text.specs.Printed.{call_text}
 use Rattle.text.proofs.Lines.{length-call_text}
 use Rattle.run.specs.Run.{input_text}
-use Rattle.linkrun.proofs.Parts.{part, behind, no_rows, opens, opens-refused, opens-accepted, at_first}
+use Rattle.linkrun.proofs.Parts.{part, behind, no_rows, opens, opens_refused, opens_accepted, at_first}
 use borrow.Author.Rules.{rules}
 use Rattle.linkrun.proofs.opening.Statement.{statement}
 use Rattle.linkrun.proofs.opening.Tie as tie
@@ -64,7 +64,7 @@ returns c =
     let is = no_rows 0 refusal _ _ _ t.result t.ensures.1 in
     let size : t.result ≡ length (call_text 0 refusal 0 []) = t.ensures.0 ∙ sym (length-call_text 0 refusal 0 []) in
     let all : drop none.result.from text ≡ text = ap (λ (k : ℕ). drop k text) none.ensures in
-    let left = all ∙ p.requires.0 ∙ opens-refused p.args.words.now o.result o.ensures.0 c.if1.true in
+    let left = all ∙ p.requires.0 ∙ opens_refused p.args.words.now o.result o.ensures.0 c.if1.true in
     behind (call_text 0 refusal 0 []) [] _ _ text none.result.from t.result _ is size left c.before.before.hand-over.ensures
 
 calls-requires : tie.Need-calls-requires
@@ -79,7 +79,7 @@ calls-requires c κs =
     let is = no_rows 0 refusal _ _ _ t.result t.ensures.1 in
     let size : t.result ≡ length (call_text 0 refusal 0 []) = t.ensures.0 ∙ sym (length-call_text 0 refusal 0 []) in
     let all : drop none.result.from text ≡ text = ap (λ (k : ℕ). drop k text) none.ensures in
-    let left = all ∙ p.requires.0 ∙ opens-accepted p.args.words.now o.result o.ensures.0 c.before.if1.false in
+    let left = all ∙ p.requires.0 ∙ opens_accepted p.args.words.now o.result o.ensures.0 c.before.if1.false in
     let further = c.before.before.before.hand-over.ensures in
     let s = at_first p.args.words.now o.result o.ensures.0 in (
       p.requires.1,

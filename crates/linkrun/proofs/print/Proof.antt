@@ -7,9 +7,9 @@ use lib.ListN.{length, drop, length-take}
 use Rattle.text.specs.Printed.{call_text}
 use Rattle.text.proofs.Lines.{length-call_text}
 use Rattle.stream.specs.Stream.{check_of}
-use Rattle.stream.proofs.Input.{taken-up}
+use Rattle.stream.proofs.Input.{taken_up}
 use Rattle.run.specs.Run.{input_text, run_text}
-use Rattle.linkrun.proofs.Parts.{part, behind, no_rows, input-refused, input-accepted}
+use Rattle.linkrun.proofs.Parts.{part, behind, no_rows, input_refused, input_accepted}
 use borrow.Author.Rules.{rules}
 use Rattle.linkrun.proofs.print.Statement.{statement}
 use Rattle.linkrun.proofs.print.Tie as tie
@@ -55,7 +55,7 @@ hand-over-requires c κs =
     let is = no_rows 0 refusal _ _ _ t.result t.ensures.1 in
     let size : t.result ≡ length (call_text 0 refusal 0 []) = t.ensures.0 ∙ sym (length-call_text 0 refusal 0 []) in
     let all : drop none.result.from text ≡ text = ap (λ (k : ℕ). drop k text) none.ensures in
-    let left = all ∙ input-refused b refusal l.ensures.0 f.if1.true in (
+    let left = all ∙ input_refused b refusal l.ensures.0 f.if1.true in (
       part (call_text 0 refusal 0 []) [] _ _ (drop none.result.from text) t.result is size left,
       simp length-take (omega (arith, none.ensures, t.ensures.0)),
     )
@@ -72,29 +72,29 @@ returns c =
     let is = no_rows 0 refusal _ _ _ t.result t.ensures.1 in
     let size : t.result ≡ length (call_text 0 refusal 0 []) = t.ensures.0 ∙ sym (length-call_text 0 refusal 0 []) in
     let all : drop none.result.from text ≡ text = ap (λ (k : ℕ). drop k text) none.ensures in
-    let left = all ∙ input-refused b refusal l.ensures.0 f.if1.true in
+    let left = all ∙ input_refused b refusal l.ensures.0 f.if1.true in
     behind (call_text 0 refusal 0 []) [] _ _ text none.result.from t.result _ is size left c.hand-over.ensures
 
 array-share-prefix-words-2 : tie.Need-array-share-prefix-words-2
 array-share-prefix-words-2 c =
     let l = c.before.before.load in
     let b = c.before.before.before.before.before.args.input.now in
-    let t = taken-up b _ _ (sym l.ensures.0 ∙ c.if1.false) l.ensures.1 in
+    let t = taken_up b _ _ (sym l.ensures.0 ∙ c.if1.false) l.ensures.1 in
     omega (arith, t.3)
 
 slice-aggregate-run : tie.Need-slice-aggregate-run
 slice-aggregate-run c =
     let l = c.before.before.before.load in
     let b = c.before.before.before.before.before.before.args.input.now in
-    let t = taken-up b _ _ (sym l.ensures.0 ∙ c.before.if1.false) l.ensures.1 in
+    let t = taken_up b _ _ (sym l.ensures.0 ∙ c.before.if1.false) l.ensures.1 in
     sym t.2 ∙ ap length (sym t.0)
 
 run-requires : tie.Need-run-requires
 run-requires c κs =
     let l = c.before.before.before.load in
     let b = c.before.before.before.before.before.before.args.input.now in
-    let t = taken-up b _ _ (sym l.ensures.0 ∙ c.before.if1.false) l.ensures.1 in (
-      input-accepted b l.result l.ensures.0 c.before.if1.false ∙ ap run_text (sym t.0),
+    let t = taken_up b _ _ (sym l.ensures.0 ∙ c.before.if1.false) l.ensures.1 in (
+      input_accepted b l.result l.ensures.0 c.before.if1.false ∙ ap run_text (sym t.0),
       ap check_of t.0 ∙ t.1,
       omega (arith, ap length t.0, t.2, t.3),
     )

@@ -7,7 +7,7 @@ use native.Mathlib.Omega.{arith}
 use lib.ListN.{length}
 use Rattle.machine.specs.Constants.{machine_words}
 use Rattle.outside.specs.Outside.{machines_outside, draws_outside}
-use Rattle.outside.specs.Outside.Laws.{machines-some, machines-on}
+use Rattle.outside.specs.Outside.Laws.{machines_some, machines_on}
 use Rattle.outside.proofs.draws_outside.Statement.{statement}
 use Rattle.outside.proofs.draws_outside.Tie as tie
 
@@ -35,7 +35,7 @@ returns : tie.Need-returns invariant-loop decreases-loop
 unfolding draws_outside
 returns c =
     let h : c.before.before.before.loop.i < length c.before.before.before.before.before.before.args.machines.now / machine_words = omega arith in
-    sym (machines-some _ _ _ _ h (sym c.before.machine-outside.ensures ∙ c.if1.true))
+    sym (machines_some _ _ _ _ h (sym c.before.machine-outside.ensures ∙ c.if1.true))
 
 add-i : tie.Need-overflow-add-i invariant-loop decreases-loop
 add-i c = search rules
@@ -46,7 +46,7 @@ loop-less c = search rules
 loop-again : tie.Need-loop-preserved invariant-loop decreases-loop
 loop-again c = (
   search rules,
-  machines-on _ _ _ c.before.before.before.loop.invariant.1 (sym c.before.machine-outside.ensures ∙ c.if1.false),
+  machines_on _ _ _ c.before.before.before.loop.invariant.1 (sym c.before.machine-outside.ensures ∙ c.if1.false),
 )
 
 returns-2 : tie.Need-returns-2 invariant-loop decreases-loop

@@ -31,7 +31,7 @@ states-outside-requires : tie.Need-states-outside-requires
 states-outside-requires c κs = search rules
 
 returns : tie.Need-returns
-returns c = rw c.before.state-rows.ensures at c.states-outside.ensures
+returns c = rw c.before.state_rows_lem.ensures at c.states-outside.ensures
 
 pub machine-outside-spec : {M : Type 1} → statement M
 machine-outside-spec =

@@ -7,8 +7,8 @@ use native.Mathlib.Omega.{arith}
 use lib.ListN.{length}
 use Rattle.machine.specs.Constants.{state_words}
 use Rattle.outside.specs.Outside.{states_outside}
-use Rattle.outside.specs.Outside.Laws.{states-some, states-on}
-use Rattle.tables.proofs.Parts.{one-row}
+use Rattle.outside.specs.Outside.Laws.{states_some, states_on}
+use Rattle.tables.proofs.Parts.{one_row}
 use Rattle.outside.proofs.states_outside.Statement.{statement}
 use Rattle.outside.proofs.states_outside.Tie as tie
 
@@ -45,8 +45,8 @@ state-outside-requires c κs = search rules
 
 returns : tie.Need-returns invariant-loop decreases-loop
 returns c =
-    let e = rw (one-row state_words _ _) at c.before.state-outside.ensures in
-    sym (states-some _ _ _ c.before.before.before.loop-test.true (sym e ∙ c.if1.true))
+    let e = rw (one_row state_words _ _) at c.before.state-outside.ensures in
+    sym (states_some _ _ _ c.before.before.before.loop-test.true (sym e ∙ c.if1.true))
 
 add-i : tie.Need-overflow-add-i invariant-loop decreases-loop
 add-i c = search rules
@@ -56,8 +56,8 @@ loop-less c = search rules
 
 loop-again : tie.Need-loop-preserved invariant-loop decreases-loop
 loop-again c =
-    let e = rw (one-row state_words _ _) at c.before.state-outside.ensures in
-    (search rules, states-on _ _ c.before.before.before.before.loop.invariant.1 (sym e ∙ c.if1.false))
+    let e = rw (one_row state_words _ _) at c.before.state-outside.ensures in
+    (search rules, states_on _ _ c.before.before.before.before.loop.invariant.1 (sym e ∙ c.if1.false))
 
 returns-2 : tie.Need-returns-2 invariant-loop decreases-loop
 returns-2 c =

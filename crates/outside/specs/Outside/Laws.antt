@@ -35,14 +35,14 @@ module _ (rows : List ℕ) where
   unfolding states_outside
   more-states n = refl
 
-  pub states-none : (n : ℕ) → states_outside rows n ≡ false → (s : ℕ) → s < n → state_outside (state_row rows s) ≡ false
-  states-none = none (states_outside rows) at more-states
+  pub states_none : (n : ℕ) → states_outside rows n ≡ false → (s : ℕ) → s < n → state_outside (state_row rows s) ≡ false
+  states_none = none (states_outside rows) at more-states
 
-  pub states-some : (n s : ℕ) → s < n → state_outside (state_row rows s) ≡ true → states_outside rows n ≡ true
-  states-some = some (states_outside rows) at more-states
+  pub states_some : (n s : ℕ) → s < n → state_outside (state_row rows s) ≡ true → states_outside rows n ≡ true
+  states_some = some (states_outside rows) at more-states
 
-  pub states-on : (n : ℕ) → states_outside rows n ≡ false → state_outside (state_row rows n) ≡ false → states_outside rows (n + 1) ≡ false
-  states-on = on (states_outside rows) at more-states
+  pub states_on : (n : ℕ) → states_outside rows n ≡ false → state_outside (state_row rows n) ≡ false → states_outside rows (n + 1) ≡ false
+  states_on = on (states_outside rows) at more-states
 
 -- ---- the machines
 -- all states of machine i
@@ -55,15 +55,15 @@ module _ (machines states : List ℕ) where
   unfolding machines_outside
   more-machines n = refl
 
-  pub machines-none : (n : ℕ) → machines_outside machines states n ≡ false → (i : ℕ) → i < n → machine_outside machines states i ≡ false
-  machines-none = none (machines_outside machines states) (machine_outside machines states) more-machines
+  pub machines_none : (n : ℕ) → machines_outside machines states n ≡ false → (i : ℕ) → i < n → machine_outside machines states i ≡ false
+  machines_none = none (machines_outside machines states) (machine_outside machines states) more-machines
 
-  pub machines-some : (n i : ℕ) → i < n → machine_outside machines states i ≡ true → machines_outside machines states n ≡ true
-  machines-some = some (machines_outside machines states) (machine_outside machines states) more-machines
+  pub machines_some : (n i : ℕ) → i < n → machine_outside machines states i ≡ true → machines_outside machines states n ≡ true
+  machines_some = some (machines_outside machines states) (machine_outside machines states) more-machines
 
-  pub machines-on : (n : ℕ) → machines_outside machines states n ≡ false → machine_outside machines states n ≡ false →
+  pub machines_on : (n : ℕ) → machines_outside machines states n ≡ false → machine_outside machines states n ≡ false →
       machines_outside machines states (n + 1) ≡ false
-  machines-on = on (machines_outside machines states) (machine_outside machines states) more-machines
+  machines_on = on (machines_outside machines states) (machine_outside machines states) more-machines
 
 pub outside_false : (machines states : List ℕ) → draws_outside machines states ≡ false →
     (i : ℕ) → i < length machines / machine_words →
@@ -71,8 +71,8 @@ pub outside_false : (machines states : List ℕ) → draws_outside machines stat
     state_outside (state_row (own_rows machines states i) s) ≡ false
 unfolding draws_outside
 outside_false machines states e i h s l =
-    states-none (own_rows machines states i) (length (own_rows machines states i) / state_words)
-    (machines-none machines states (length machines / machine_words) e i h) s l
+    states_none (own_rows machines states i) (length (own_rows machines states i) / state_words)
+    (machines_none machines states (length machines / machine_words) e i h) s l
 
 -- ---- the fields of a state
 -- no used field is drawn outside

@@ -7,8 +7,8 @@ use native.Mathlib.Omega.{arith}
 use lib.ListN.{length}
 use Rattle.machine.specs.State.{target_at}
 use Rattle.rows.specs.Row.{row_refusal}
-use Rattle.rows.proofs.Seen.{Met, met_none, met-on, mark_below, by-mark, passed}
-use Rattle.rows.proofs.Rows.{rest, row_starts, row_on, row-stops, row_ends}
+use Rattle.rows.proofs.Seen.{Met, met_none, met_on, mark_below, by_mark, passed}
+use Rattle.rows.proofs.Rows.{rest, row_starts, row_on, row_stops, row_ends}
 use Rattle.rows.proofs.check_marked_row.Statement.{statement}
 use Rattle.rows.proofs.check_marked_row.Tie as tie
 
@@ -38,8 +38,8 @@ same_length c = c.before.before.before.before.meet.auto.0 ∙ c.before.before.be
 returns : tie.Need-returns invariant-loop decreases-loop
 returns c =
     let l = c.before.before.before.before.before.before.before.before.loop.invariant.1.1.1 in
-    let e = rw (c.before.before.before.before.meet.ensures.0, c.before.before.before.before.before.target_at.ensures, by-mark _ _ _ _ _ l.0) at c.before.check-transition.ensures in
-    e ∙ sym (l.1 ∙ row-stops _ _ _ _ _ _ c.before.before.before.before.before.before.before.loop-test.true (λ z. c.if1.true (e ∙ z)))
+    let e = rw (c.before.before.before.before.meet.ensures.0, c.before.before.before.before.before.target_at.ensures, by_mark _ _ _ _ _ l.0) at c.before.check-transition.ensures in
+    e ∙ sym (l.1 ∙ row_stops _ _ _ _ _ _ c.before.before.before.before.before.before.before.loop-test.true (λ z. c.if1.true (e ∙ z)))
 
 probability-at-requires : tie.Need-probability-at-requires invariant-loop decreases-loop
 probability-at-requires c κs = search rules
@@ -58,7 +58,7 @@ loop-again c =
     let m = c.before.before.before.before.before.meet in
     let q = c.before.before.check-transition.ensures in
     let z = c.before.if1.false in
-    let e = rw (m.ensures.0, t, by-mark _ _ _ _ _ l.1.1.1.0) at q in
+    let e = rw (m.ensures.0, t, by_mark _ _ _ _ _ l.1.1.1.0) at q in
     let f = rw t at m.ensures.1 in (
       search rules,
       (
@@ -66,7 +66,7 @@ loop-again c =
         (
           m.auto.0 ∙ l.1.1.0,
           (
-            rw f (met-on _ _ _ _ _ l.1.1.1.0 l.0
+            rw f (met_on _ _ _ _ _ l.1.1.1.0 l.0
                 (omega (arith, mark_below a.args.n (target_at a.args.transitions.now c.before.before.before.before.before.before.before.before.before.loop.i), l.1.1.0, a.requires.1.1.1.0))
                 (passed _ _ _ _ (sym q ∙ z))),
             rw c.probability-at.ensures (l.1.1.1.1 ∙ row_on _ _ _ _ _ _ c.before.before.before.before.before.before.before.before.loop-test.true (sym e ∙ z)),

@@ -3,7 +3,7 @@
 use borrow.Author.Rules.{rules}
 use native.Mathlib.Omega.{arith}
 use mathlib.Core.Path.{sym, ◌∙◌}
-use Rattle.rows.proofs.Rows.{there-is, first_stops, no_second, second-stops, no_third}
+use Rattle.rows.proofs.Rows.{there_is, first_stops, no_second, second_stops, no_third}
 use Rattle.rows.proofs.check_one_or_two.Statement.{statement}
 use Rattle.rows.proofs.check_one_or_two.Tie as tie
 
@@ -47,8 +47,8 @@ returns-3 c =
     let none = sym c.before.before.before.before.before.before.before.check-transition.ensures ∙ c.before.before.before.before.before.before.if1.false in
     let some = c.before.before.before.before.before.before.before.before.before.requires.0 in
     let two = c.before.before.before.before.if2.false in
-    let e = there-is _ _ _ _ some _ _ _ first last c.before.check-transition2.ensures in
-    e ∙ second-stops _ _ _ _ some none (omega (arith, some, two)) (λ z. c.if3.true (e ∙ z))
+    let e = there_is _ _ _ _ some _ _ _ first last c.before.check-transition2.ensures in
+    e ∙ second_stops _ _ _ _ some none (omega (arith, some, two)) (λ z. c.if3.true (e ∙ z))
 
 probability-at-requires-2 : tie.Need-probability-at-requires-2
 probability-at-requires-2 c κs = search rules
@@ -65,7 +65,7 @@ returns-4 c =
     let none = sym c.before.before.before.before.before.before.before.before.before.check-transition.ensures ∙ c.before.before.before.before.before.before.before.before.if1.false in
     let pre = c.before.before.before.before.before.before.before.before.before.before.before.requires in
     let two = c.before.before.before.before.before.before.if2.false in
-    let e = there-is _ _ _ _ pre.0 _ _ _ first last c.before.before.before.check-transition2.ensures in
+    let e = there_is _ _ _ _ pre.0 _ _ _ first last c.before.before.before.check-transition2.ensures in
     c.check-sum2.ensures
     ∙ no_third _ _ _ _ pre.0 none (omega (arith, pre.0, two)) pre.1.0 (sym e ∙ c.before.before.if3.false) _ _ one other
 

@@ -4,7 +4,7 @@ use borrow.Author.Rules.{rules}
 use Prim.Native.Nat.{◌≤◌, ◌-◌}
 use mathlib.Core.Path.{◌≡◌, sym, ◌∙◌}
 use Rattle.rows.specs.Row.{row_refusal}
-use Rattle.rows.proofs.Rows.{rest, row_starts, row_on, row-stops, row_ends}
+use Rattle.rows.proofs.Rows.{rest, row_starts, row_on, row_stops, row_ends}
 use Rattle.rows.proofs.check_short_row.Statement.{statement}
 use Rattle.rows.proofs.check_short_row.Tie as tie
 
@@ -29,7 +29,7 @@ returns c =
     let e = rw c.before.before.seen-before.ensures at c.before.check-transition.ensures in
     e
     ∙ sym
-    (c.before.before.before.before.loop.invariant.1.1 ∙ row-stops _ _ _ _ _ _ c.before.before.before.loop-test.true (λ z. c.if1.true (e ∙ z)))
+    (c.before.before.before.before.loop.invariant.1.1 ∙ row_stops _ _ _ _ _ _ c.before.before.before.loop-test.true (λ z. c.if1.true (e ∙ z)))
 
 probability-at-requires : tie.Need-probability-at-requires invariant-loop decreases-loop
 probability-at-requires c κs = search rules

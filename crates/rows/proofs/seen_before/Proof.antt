@@ -3,7 +3,7 @@ use borrow.Author.Rules.{rules}
 use Prim.Native.Nat.{◌≤◌, ◌-◌}
 use mathlib.Core.Path.{◌≡◌, sym, ◌∙◌}
 use Rattle.rows.specs.Row.{seen_in, seen_before}
-use Rattle.rows.proofs.Seen.{seen-on, seen_here, seen_end}
+use Rattle.rows.proofs.Seen.{seen_on, seen_here, seen_end}
 use Rattle.rows.proofs.seen_before.Statement.{statement}
 use Rattle.rows.proofs.seen_before.Tie as tie
 
@@ -38,7 +38,7 @@ loop-less c = search rules
 loop-again : tie.Need-loop-preserved invariant-loop decreases-loop
 loop-again c =
     let e = c.before.target-at2.ensures in
-    (search rules, (search rules, c.before.before.before.loop.invariant.1.1 ∙ seen-on _ _ _ _ c.before.before.loop-test.true (λ z. c.if1.false (e ∙ z))))
+    (search rules, (search rules, c.before.before.before.loop.invariant.1.1 ∙ seen_on _ _ _ _ c.before.before.loop-test.true (λ z. c.if1.false (e ∙ z))))
 
 returns-2 : tie.Need-returns-2 invariant-loop decreases-loop
 returns-2 c = sym (c.before.loop.invariant.1.1 ∙ seen_end _ _ _ _ c.loop-test.false)

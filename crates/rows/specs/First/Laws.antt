@@ -24,12 +24,12 @@ module _ (f : ℕ → ℕ) (e i : ℕ) where
   pub first_on : i < e → f i ≡ 0 → first_refusal f (e - i) i ≡ first_refusal f (e - (i + 1)) (i + 1)
   first_on h p = turn h ∙ second p
 
-  pub first-here : i < e → (f i ≡ 0 → ⊥) → first_refusal f (e - i) i ≡ f i
-  first-here h p = turn h ∙ former _ p
+  pub first_here : i < e → (f i ≡ 0 → ⊥) → first_refusal f (e - i) i ≡ f i
+  first_here h p = turn h ∙ former _ p
 
-  pub first-end : e ≤ i → first_refusal f (e - i) i ≡ 0
+  pub first_end : e ≤ i → first_refusal f (e - i) i ≡ 0
   unfolding first_refusal
-  first-end h = let none : e - i ≡ zero = omega arith in rw none
+  first_end h = let none : e - i ≡ zero = omega arith in rw none
 
 -- ---- where it is met, of f at i, i + 1, .., k of them: all are 0, or one is the answer and those before it are 0
 pub data Met (f : ℕ → ℕ) (k i : ℕ) : Type 0 where

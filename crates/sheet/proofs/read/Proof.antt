@@ -1,7 +1,7 @@
 -- `sheet::read` meets its contract: one case for each refusal, and one for the rows.
 use mathlib.Core.Path.{sym, ◌∙◌}
 use lib.ListN.{length}
-use Rattle.sheet.proofs.Answered.{fits, malformed, no_room, read-rows}
+use Rattle.sheet.proofs.Answered.{fits, malformed, no_room, read_rows}
 use borrow.Author.Rules.{rules}
 use Rattle.sheet.proofs.read.Statement.{statement}
 use Rattle.sheet.proofs.read.Tie as tie
@@ -34,7 +34,7 @@ returns c =
     let a = c.before.before.before.before.before.before.before.before.before.before.before.before.before.before.before.before.before.before.args in
     let f = c.before.before.before.before.before.before.before.before.before.before.before.before.before.form_of in
     let p = c.before.before.before.before.before.before.put-tables in
-    read-rows a.sheet.now a.machines.now a.states.now a.transitions.now f.result _ _ _ f.ensures.0 c.before.before.before.before.before.before.before.before.before.before.before.before.if1.true
+    read_rows a.sheet.now a.machines.now a.states.now a.transitions.now f.result _ _ _ f.ensures.0 c.before.before.before.before.before.before.before.before.before.before.before.before.if1.true
     (sym c.before.before.before.before.before.before.before.before.before.before.before.has_room.ensures ∙ c.before.before.before.before.before.before.before.before.before.before.if2.true)
     p.ensures.0
     p.ensures.1

@@ -1,7 +1,7 @@
 -- `sheet::write` meets its contract: one case for each refusal, and one for the sheet.
 use mathlib.Core.Path.{sym, ◌∙◌}
 use borrow.Author.Tests.{leb-true}
-use Rattle.sheet.proofs.Answered.{not-rows, no-space, written_out}
+use Rattle.sheet.proofs.Answered.{not_rows, no_space, written_out}
 use borrow.Author.Rules.{rules}
 use Rattle.sheet.proofs.write.Statement.{statement}
 use Rattle.sheet.proofs.write.Tie as tie
@@ -29,12 +29,12 @@ returns c =
 returns-2 : tie.Need-returns-2
 returns-2 c =
     let a = c.before.before.before.before.before.before.before.before.args in
-    no-space a.machines.now a.states.now a.transitions.now a.sheet.now _ _ c.before.before.before.whole-rows.ensures c.before.before.if1.true c.before.lines_fit.ensures c.if2.false
+    no_space a.machines.now a.states.now a.transitions.now a.sheet.now _ _ c.before.before.before.whole-rows.ensures c.before.before.if1.true c.before.lines_fit.ensures c.if2.false
 
 returns-3 : tie.Need-returns-3
 returns-3 c =
     let a = c.before.before.before.before.before.before.args in
-    not-rows a.machines.now a.states.now a.transitions.now a.sheet.now _ c.before.whole-rows.ensures c.if1.false
+    not_rows a.machines.now a.states.now a.transitions.now a.sheet.now _ c.before.whole-rows.ensures c.if1.false
 
 pub write_spec : {M : Type 1} → statement M
 write_spec =

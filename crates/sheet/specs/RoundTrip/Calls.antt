@@ -39,10 +39,10 @@ module _ (m s t sheet : List ℕ) where
       by_tests false e false f = absurd (omega (arith, simp (e, f) at h))
 
   -- the tables are whole rows, and their sheet has room
-  pub write-accepted : (sheet_write m s t sheet).answer.refusal ≡ 0 → Words m → Words s → Words t
+  pub write_accepted : (sheet_write m s t sheet).answer.refusal ≡ 0 → Words m → Words s → Words t
       → Sound m s t × (length (sheet_of m s t) ≤ length sheet)
   unfolding whole_rows
-  write-accepted h wm ws wt =
+  write_accepted h wm ws wt =
       let a = eqb (length m % machine_words) 0 in
       let b = eqb (length s % state_words) 0 in
       let c = eqb (length t % transition_words) 0 in
@@ -50,12 +50,12 @@ module _ (m s t sheet : List ℕ) where
       let ab = (and-eq-true_iff a (b && c)).0 g.0 in
       let bc = (and-eq-true_iff b c).0 ab.1 in (
         record {
-          machine-rows = eqb-true (length m % machine_words) 0 ab.0;
-          state-rows = eqb-true (length s % state_words) 0 bc.0;
-          transition-rows = eqb-true (length t % transition_words) 0 bc.1;
-          machine-words = wm;
-          state-words = ws;
-          transition-words = wt;
+          machine_rows_lem = eqb-true (length m % machine_words) 0 ab.0;
+          state_rows_lem = eqb-true (length s % state_words) 0 bc.0;
+          transition_rows_lem = eqb-true (length t % transition_words) 0 bc.1;
+          machine_words_lem = wm;
+          state_words_lem = ws;
+          transition_words_lem = wt;
         },
         leb-true (length (sheet_of m s t)) (length sheet) g.1,
       )
@@ -64,23 +64,23 @@ module _ (m s t sheet : List ℕ) where
       → sheet_write m s t sheet
       ≡ record { answer = record { refusal = 0; bytes = length (sheet_of m s t) }; sheet = over (sheet_of m s t) sheet }
   unfolding sheet_write write_refusal whole_rows
-  writes k l = rw (k.machine-rows, k.state-rows, k.transition-rows, le-leb (length (sheet_of m s t)) (length sheet) l)
+  writes k l = rw (k.machine_rows_lem, k.state_rows_lem, k.transition_rows_lem, le-leb (length (sheet_of m s t)) (length sheet) l)
 
 -- ---- the reader
 
 module _ (sheet m s t : List ℕ) where
-  pub read-accepted : (sheet_read sheet m s t).answer.refusal ≡ 0 → read_refusal sheet m s t ≡ 0
+  pub read_accepted : (sheet_read sheet m s t).answer.refusal ≡ 0 → read_refusal sheet m s t ≡ 0
   unfolding sheet_read
-  read-accepted h = by_test (eqb (read_refusal sheet m s t) 0) refl
+  read_accepted h = by_test (eqb (read_refusal sheet m s t) 0) refl
     where
       by_test : (b : Bool) → eqb (read_refusal sheet m s t) 0 ≡ b → read_refusal sheet m s t ≡ 0
       by_test true e = eqb-true (read_refusal sheet m s t) 0 e
       by_test false e = rw e at h
 
   -- the form has passed
-  pub form-passed : read_refusal sheet m s t ≡ 0 → (form_of sheet).whole ≡ true
+  pub form_passed : read_refusal sheet m s t ≡ 0 → (form_of sheet).whole ≡ true
   unfolding read_refusal
-  form-passed h =
+  form_passed h =
       by_tests (form_of sheet).whole refl (room_for (form_of sheet) (length m) (length s) (length t)) refl
     where
       by_tests : (a : Bool) → (form_of sheet).whole ≡ a
@@ -91,11 +91,11 @@ module _ (sheet m s t : List ℕ) where
       by_tests false e false f = absurd (omega (arith, simp (e, f) at h))
 
   -- the form passes, and the tables have room
-  pub not-refused-read : (form_of sheet).whole ≡ true → machine_words * (form_of sheet).machines ≤ length m
+  pub not_refused_read : (form_of sheet).whole ≡ true → machine_words * (form_of sheet).machines ≤ length m
       → state_words * (form_of sheet).states ≤ length s → transition_words * (form_of sheet).transitions ≤ length t
       → read_refusal sheet m s t ≡ 0
   unfolding read_refusal room_for
-  not-refused-read w lm ls lt =
+  not_refused_read w lm ls lt =
       rw (
         le-leb (machine_words * (form_of sheet).machines) (length m) lm,
         le-leb (state_words * (form_of sheet).states) (length s) ls,

@@ -8,18 +8,18 @@ use Rattle.columns.specs.Columns.{right, fits}
 use Rattle.machine.specs.Same.{same}
 use Rattle.cells.specs.RoundTrip.U64.{Words}
 use Rattle.lines.specs.Lines.{kind_columns, lines_of, table_of}
-use Rattle.lines.specs.RoundTrip.Tables.{Unlike, unlike_lines, lines-written, table-read, behind-written, length-table, words-table, split}
+use Rattle.lines.specs.RoundTrip.Tables.{Unlike, unlike_lines, lines_written, table_read, behind_written, length-table, words_table, split}
 use Rattle.sheet.specs.Sheet.{machine_kind, state_kind, transition_kind, sheet_of}
 use Rattle.sheet.specs.Reader.{form_of, machine_lines, state_lines, transition_lines, behind_machines, behind_states, behind_transitions}
 
 -- tables of whole rows of words
 pub record Sound (m s t : List ℕ) : Type 0 where
-  pub machine-rows : length m % machine_words ≡ 0
-  pub state-rows : length s % state_words ≡ 0
-  pub transition-rows : length t % transition_words ≡ 0
-  pub machine-words : Words m
-  pub state-words : Words s
-  pub transition-words : Words t
+  pub machine_rows_lem : length m % machine_words ≡ 0
+  pub state_rows_lem : length s % state_words ≡ 0
+  pub transition_rows_lem : length t % transition_words ≡ 0
+  pub machine_words_lem : Words m
+  pub state_words_lem : Words s
+  pub transition_words_lem : Words t
 
 -- ---- the sheet of tables
 
@@ -60,44 +60,44 @@ unfolding sheet_of
 sheet_parts m s t = rw (append-nil (lines_of transition_kind transition_words t))
 
 module _ (m s t : List ℕ) (k : Sound m s t) where
-  pub machines-counted : machine_lines (sheet_of m s t) ≡ length m / machine_words
+  pub machines_counted : machine_lines (sheet_of m s t) ≡ length m / machine_words
   unfolding machine_lines
-  machines-counted =
+  machines_counted =
       let u = unlike_lines machine_kind transition_kind transition_words t [] transition_no_machine end_no_machine in
       let v = unlike_lines machine_kind state_kind state_words s (transition_text t) state_no_machine u in
       rw (sheet_parts m s t)
-      (lines-written machine_kind machine_words m k.machine-rows (state_text s t) k.machine-words v)
+      (lines_written machine_kind machine_words m k.machine_rows_lem (state_text s t) k.machine_words_lem v)
 
   machines-passed : behind_machines (sheet_of m s t) ≡ state_text s t
   unfolding behind_machines
   machines-passed =
-      rw (machines-counted, sheet_parts m s t)
-      (behind-written machine_kind machine_words m k.machine-rows (state_text s t))
+      rw (machines_counted, sheet_parts m s t)
+      (behind_written machine_kind machine_words m k.machine_rows_lem (state_text s t))
 
-  pub states-counted : state_lines (sheet_of m s t) ≡ length s / state_words
+  pub states_counted : state_lines (sheet_of m s t) ≡ length s / state_words
   unfolding state_lines
-  states-counted =
+  states_counted =
       let u = unlike_lines state_kind transition_kind transition_words t [] transition_no_state end_no_state in
-      rw machines-passed (lines-written state_kind state_words s k.state-rows (transition_text t) k.state-words u)
+      rw machines-passed (lines_written state_kind state_words s k.state_rows_lem (transition_text t) k.state_words_lem u)
 
   states-passed : behind_states (sheet_of m s t) ≡ transition_text t
   unfolding behind_states
   states-passed =
-      rw (states-counted, machines-passed) (behind-written state_kind state_words s k.state-rows (transition_text t))
+      rw (states_counted, machines-passed) (behind_written state_kind state_words s k.state_rows_lem (transition_text t))
 
-  pub transitions-counted : transition_lines (sheet_of m s t) ≡ length t / transition_words
+  pub transitions_counted : transition_lines (sheet_of m s t) ≡ length t / transition_words
   unfolding transition_lines
-  transitions-counted =
+  transitions_counted =
       rw states-passed
-      (lines-written transition_kind transition_words t k.transition-rows [] k.transition-words end_no_transition)
+      (lines_written transition_kind transition_words t k.transition_rows_lem [] k.transition_words_lem end_no_transition)
 
   transitions-passed : behind_transitions (sheet_of m s t) ≡ []
   unfolding behind_transitions
   transitions-passed =
-      rw (transitions-counted, states-passed) (behind-written transition_kind transition_words t k.transition-rows [])
+      rw (transitions_counted, states-passed) (behind_written transition_kind transition_words t k.transition_rows_lem [])
 
   -- THEOREM: the form of the sheet of tables of whole rows of words passes, with their rows.
-  pub sheet-is-whole : form_of (sheet_of m s t)
+  pub sheet_is_whole : form_of (sheet_of m s t)
       ≡ record {
         machines = length m / machine_words;
         states = length s / state_words;
@@ -105,7 +105,7 @@ module _ (m s t : List ℕ) (k : Sound m s t) where
         whole = true;
       }
   unfolding form_of
-  sheet-is-whole = rw (machines-counted, states-counted, transitions-counted, transitions-passed)
+  sheet_is_whole = rw (machines_counted, states_counted, transitions_counted, transitions-passed)
 
 -- the tables that a sheet is read as
 abbrev pub machines_of : List ℕ → List ℕ
@@ -118,20 +118,20 @@ abbrev pub transitions_of : List ℕ → List ℕ
 transitions_of sheet = table_of transition_words (transition_lines sheet) (behind_states sheet)
 
 module _ (m s t : List ℕ) (k : Sound m s t) where
-  pub machines-read : machines_of (sheet_of m s t) ≡ m
-  machines-read =
-      rw (machines-counted m s t k, sheet_parts m s t)
-      (table-read machine_kind machine_words m k.machine-rows (state_text s t) k.machine-words)
+  pub machines_read : machines_of (sheet_of m s t) ≡ m
+  machines_read =
+      rw (machines_counted m s t k, sheet_parts m s t)
+      (table_read machine_kind machine_words m k.machine_rows_lem (state_text s t) k.machine_words_lem)
 
-  pub states-read : states_of (sheet_of m s t) ≡ s
-  states-read =
-      rw (states-counted m s t k, machines-passed m s t k)
-      (table-read state_kind state_words s k.state-rows (transition_text t) k.state-words)
+  pub states_read : states_of (sheet_of m s t) ≡ s
+  states_read =
+      rw (states_counted m s t k, machines-passed m s t k)
+      (table_read state_kind state_words s k.state_rows_lem (transition_text t) k.state_words_lem)
 
-  pub transitions-read : transitions_of (sheet_of m s t) ≡ t
-  transitions-read =
-      rw (transitions-counted m s t k, states-passed m s t k)
-      (table-read transition_kind transition_words t k.transition-rows [] k.transition-words)
+  pub transitions_read : transitions_of (sheet_of m s t) ≡ t
+  transitions_read =
+      rw (transitions_counted m s t k, states-passed m s t k)
+      (table_read transition_kind transition_words t k.transition_rows_lem [] k.transition_words_lem)
 
 -- ---- a sheet whose form passes
 
@@ -139,28 +139,28 @@ empty : (xs : List ℕ) → length xs ≡ 0 → xs ≡ []
 empty [] h = refl
 empty (x ∷ xs) h = absurd (omega (arith, h))
 
-pub length_machines : (sheet : List ℕ) → length (machines_of sheet) ≡ machine_words * machine_lines sheet
+pub length-machines : (sheet : List ℕ) → length (machines_of sheet) ≡ machine_words * machine_lines sheet
 unfolding machine_lines
-length_machines sheet = length-table machine_kind machine_words sheet
+length-machines sheet = length-table machine_kind machine_words sheet
 
-pub length_states : (sheet : List ℕ) → length (states_of sheet) ≡ state_words * state_lines sheet
+pub length-states : (sheet : List ℕ) → length (states_of sheet) ≡ state_words * state_lines sheet
 unfolding state_lines
-length_states sheet = length-table state_kind state_words (behind_machines sheet)
+length-states sheet = length-table state_kind state_words (behind_machines sheet)
 
-pub length_transitions : (sheet : List ℕ) → length (transitions_of sheet) ≡ transition_words * transition_lines sheet
+pub length-transitions : (sheet : List ℕ) → length (transitions_of sheet) ≡ transition_words * transition_lines sheet
 unfolding transition_lines
-length_transitions sheet = length-table transition_kind transition_words (behind_states sheet)
+length-transitions sheet = length-table transition_kind transition_words (behind_states sheet)
 
 -- THEOREM: the tables that any sheet is read as are whole rows of words.
 pub tables_are_sound : (sheet : List ℕ) → Sound (machines_of sheet) (states_of sheet) (transitions_of sheet)
 unfolding machine_lines state_lines transition_lines
 tables_are_sound sheet = record {
-  machine-rows = omega (arith, length_machines sheet);
-  state-rows = omega (arith, length_states sheet);
-  transition-rows = omega (arith, length_transitions sheet);
-  machine-words = words-table machine_kind machine_words sheet;
-  state-words = words-table state_kind state_words (behind_machines sheet);
-  transition-words = words-table transition_kind transition_words (behind_states sheet);
+  machine_rows_lem = omega (arith, length-machines sheet);
+  state_rows_lem = omega (arith, length-states sheet);
+  transition_rows_lem = omega (arith, length-transitions sheet);
+  machine_words_lem = words_table machine_kind machine_words sheet;
+  state_words_lem = words_table state_kind state_words (behind_machines sheet);
+  transition_words_lem = words_table transition_kind transition_words (behind_states sheet);
 }
 
 -- each text is its lines and what stands behind them

@@ -9,8 +9,8 @@ use Rattle.machine.specs.Words.{lent}
 use Rattle.steps.specs.Events.{signals}
 use Rattle.events.specs.Run.{tables, run}
 use Rattle.transition.specs.Transition.{at_most}
-use Rattle.signals.proofs.Heard.{known_is, Heard, heard_all, heard-skip, heard-turn, heard-stops}
-use Rattle.signals.proofs.Heard.{heard-last, heard-quiet, heard-dropped, heard-again}
+use Rattle.signals.proofs.Heard.{known_is, Heard, heard_all, heard_skip, heard_turn, heard_stops}
+use Rattle.signals.proofs.Heard.{heard_last, heard_quiet, heard_dropped, heard_again}
 use Rattle.signals.proofs.run_signals.Statement.{statement}
 use Rattle.signals.proofs.run_signals.Tie as tie
 
@@ -45,7 +45,7 @@ loop-again : tie.Need-loop-preserved invariant-loop decreases-loop
 loop-again c =
     let if1 = c.before.if1 in
     let loop = c.before.before.loop in
-    (loop.invariant.0, loop.invariant.1, heard-skip loop.invariant.2 if1.true c.if2.true)
+    (loop.invariant.0, loop.invariant.1, heard_skip loop.invariant.2 if1.true c.if2.true)
 
 states-of-requires : tie.Need-states-of-requires invariant-loop decreases-loop
 states-of-requires c κs = omega (arith, c.before.before.loop.invariant.0, c.before.if1.true)
@@ -97,7 +97,7 @@ returns c =
     let if2 = c.before.before.before.before.before.before.before.before.before.before.if2 in
     let if1 = c.before.before.before.before.before.before.before.before.before.before.before.if1 in
     let loop = c.before.before.before.before.before.before.before.before.before.before.before.before.loop in (
-      rw (heard-stops loop.invariant.2 if1.true if2.false
+      rw (heard_stops loop.invariant.2 if1.true if2.false
           (sym (rw (states-of.ensures, context-of.ensures) at (transition.ensures counter_num (at_most loop.t)))
           ∙ x.given.1)),
       refl,
@@ -152,7 +152,7 @@ loop-again-2 c =
     let loop = c.before.before.before.before.before.before.before.before.before.before.before.before.before.before.before.loop in (
       loop.invariant.0,
       loop.invariant.1,
-      heard-turn loop.invariant.2 if1.true if2.false
+      heard_turn loop.invariant.2 if1.true if2.false
           (sym (rw (states-of.ensures, context-of.ensures) at (transition.ensures counter_num (at_most loop.t)))
           ∙ x2.given.1),
     )
@@ -161,13 +161,13 @@ returns-2 : tie.Need-returns-2 invariant-loop decreases-loop
 returns-2 c =
     let if1 = c.before.before.if1 in
     let loop = c.before.before.before.loop in
-    (rw (heard-quiet loop.invariant.2 if1.false c.if3.true), loop.invariant.1)
+    (rw (heard_quiet loop.invariant.2 if1.false c.if3.true), loop.invariant.1)
 
 returns-3 : tie.Need-returns-3 invariant-loop decreases-loop
 returns-3 c =
     let if1 = c.before.before.before.if1 in
     let loop = c.before.before.before.before.loop in
-    (rw (heard-last loop.invariant.2 if1.false c.if4.true), loop.invariant.1)
+    (rw (heard_last loop.invariant.2 if1.false c.if4.true), loop.invariant.1)
 
 smaller-requires-2 : tie.Need-smaller-requires-2 invariant-loop decreases-loop
 smaller-requires-2 c κs = search rules
@@ -211,7 +211,7 @@ loop-again-3 c =
     let k = known_is loop.left_out _ (sym (rw smaller2.ensures at known.ensures) ∙ c.if5.true) in (
       omega (arith, k.0, k.1),
       loop.invariant.1,
-      heard-again loop.invariant.2 if1.false if3.false if4.false
+      heard_again loop.invariant.2 if1.false if3.false if4.false
           (sym (rw smaller2.ensures at known.ensures) ∙ c.if5.true),
     )
 
@@ -223,7 +223,7 @@ returns-4 c =
     let if3 = c.before.before.before.before.if3 in
     let if1 = c.before.before.before.before.before.before.if1 in
     let loop = c.before.before.before.before.before.before.before.loop in (
-      rw (heard-dropped loop.invariant.2 if1.false if3.false if4.false
+      rw (heard_dropped loop.invariant.2 if1.false if3.false if4.false
           (sym (rw smaller2.ensures at known.ensures) ∙ c.if5.false)),
       loop.invariant.1,
     )

@@ -9,14 +9,14 @@ use Rattle.machine.specs.Constants.{machine_max}
 use Rattle.steps.specs.Transition.{no_action}
 use Rattle.steps.specs.Events.{Tables, Run, each, num_machines, kind_at, machine_at, event_turn, signals}
 use Rattle.steps.specs.Framework.{begin, trigger_events, accepted, batch}
-use Rattle.steps.specs.Runs.{Ok, ok_any, ok-then, ok-map, each-ok, batch-ok}
+use Rattle.steps.specs.Runs.{Ok, ok_any, ok_then, ok_map, each_ok, batch_ok}
 use Rattle.steps.specs.Machines.{none_pending}
 use Rattle.steps.specs.Budget.{Ledger, count, counted, returned, returns_padding, packets, Spends}
-use Rattle.steps.specs.Budget.Invariant.{nobody, counted_grows, Inv, inv-acts, inv-end}
+use Rattle.steps.specs.Budget.Invariant.{nobody, counted_grows, Inv, inv_acts, inv_end}
 use Rattle.steps.specs.Budget.Check.{Setup, machines_of, checks}
 use Rattle.steps.specs.Budget.Machine.{is_padding, Told}
-use Rattle.steps.specs.Budget.Runs.{Frame, At, sends, num-is, Live}
-use Rattle.steps.specs.Budget.Turns.{event-ok, signals-ok}
+use Rattle.steps.specs.Budget.Runs.{Frame, At, sends, num_is, Live}
+use Rattle.steps.specs.Budget.Turns.{event_ok, signals_ok}
 use Rattle.steps.specs.Budget.Rows.{returned_acts}
 use Rattle.steps.specs.declared.Framework.{Framework}
 
@@ -58,9 +58,9 @@ module _ (S : Setup) where
       → packets (counted l es) ≤ 2 ^ 53
       → Ok Told (Live S (counted l es)) (each (event_turn tables D es) (length es / 2) 0 x)
   events-ok D tells es l x v s small =
-      ok-map Told (λ y. (j : ℕ) × P zero j y) (Live S (counted l es))
+      ok_map Told (λ y. (j : ℕ) × P zero j y) (Live S (counted l es))
       (each (event_turn tables D es) (length es / 2) 0 x)
-      (each-ok Told P (event_turn tables D es) step (length es / 2) 0 x (l, v, s, refl, none (length es / 2)))
+      (each_ok Told P (event_turn tables D es) step (length es / 2) 0 x (l, v, s, refl, none (length es / 2)))
       (λ y q. end y q.0 q.1)
     where
       -- m counts the events so far
@@ -79,9 +79,9 @@ module _ (S : Setup) where
           let t' = subst (Spends m) words t in
           let e' : counted (count m (kind_at es i) (machine_at es i)) (drop ((i + 1) * 2) es) ≡ counted l
           es = ap (counted m) (sym words) ∙ e in
-          ok-map Told (Live S (count m (kind_at es i) (machine_at es i))) (P n (i + 1))
+          ok_map Told (Live S (count m (kind_at es i) (machine_at es i))) (P n (i + 1))
           (event_turn tables D es i y)
-          (event-ok S D tells m (kind_at es i) (machine_at es i) y w t'.0
+          (event_ok S D tells m (kind_at es i) (machine_at es i) y w t'.0
           (le_trans (counted_grows (count m (kind_at es i) (machine_at es i)) (drop ((i + 1) * 2) es))
           (subst (λ (z : Ledger). packets z ≤ 2 ^ 53) (sym e') small)))
           (λ z u. (count m (kind_at es i) (machine_at es i), u, t'.1, e', omega arith))
@@ -104,7 +104,7 @@ module _ (S : Setup) where
   begins : (l : Ledger) (fw : Framework) (time : ℕ) → packets l ≤ 2 ^ 53 → Rest l fw
       → Live S l (begin fw time)
   begins l fw time small r = (
-    inv-acts (checks S) l nobody (sends S (begin fw time)) small r.inv
+    inv_acts (checks S) l nobody (sends S (begin fw time)) small r.inv
         (λ i t. absurd (none_pending (λ a. T (is_padding a) → ⊥) (λ u. u) machine_max i t)),
     record {
       frame = record {
@@ -124,11 +124,11 @@ module _ (S : Setup) where
       → Ok Told (Live S (counted l es)) (trigger_events tables D time es fw)
   unfolding trigger_events
   runs D tells time es l fw r s small =
-      ok-then Told (Live S (counted l es)) (Live S (counted l es))
+      ok_then Told (Live S (counted l es)) (Live S (counted l es))
       (each (event_turn tables D es) (length es / 2) 0 (begin fw time)) (signals tables D)
       (events-ok D tells es l (begin fw time) (begins l fw time (le_trans (counted_grows l es) small) r) s
       small)
-      (signals-ok S D tells (counted l es) small)
+      (signals_ok S D tells (counted l es) small)
 
   -- ---- the batch's end
   ends : (l : Ledger) (x : Run) (out : List ℕ) → packets l ≤ 2 ^ 53 → Live S l x
@@ -136,7 +136,7 @@ module _ (S : Setup) where
       (accepted x out).answer.framework
   ends l x out small (v, s) = record {
     inv =
-        inv-end (checks S) l rows (inv-acts (checks S) l (sends S x) rows small v
+        inv_end (checks S) l rows (inv_acts (checks S) l (sends S x) rows small v
         (λ i t. (bound i (read i t).0, inl (read i t).1)));
     frame = record {
       machines = s.frame.machines;
@@ -155,18 +155,18 @@ module _ (S : Setup) where
       read i t = returned_acts x.actions (num_machines x.framework) out i t
 
       bound : (i : ℕ) → i < num_machines x.framework → i < machines_of S
-      bound i h = subst (λ (n : ℕ). i < n) (num-is S l x.framework s.frame) h
+      bound i h = subst (λ (n : ℕ). i < n) (num_is S l x.framework s.frame) h
 
   -- ---- a batch with refusal 0 ran to its end
-  pub accepted-law : (D : Source Place) (tells : Telling D) (time : ℕ) (es out : List ℕ) (l : Ledger) (fw : Framework) → Rest l fw
+  pub accepted_law : (D : Source Place) (tells : Telling D) (time : ℕ) (es out : List ℕ) (l : Ledger) (fw : Framework) → Rest l fw
       → Spends l es
       → packets (counted l es) ≤ 2 ^ 53 → (batch fw tables time es D out).answer.refusal ≡ 0
       → Rest (returned (counted l es)
       (returns_padding (batch fw tables time es D out).out
       (batch fw tables time es D out).answer.actions))
       (batch fw tables time es D out).answer.framework
-  accepted-law D tells time es out l fw r s small =
-      batch-ok Told (Live S (counted l es))
+  accepted_law D tells time es out l fw r s small =
+      batch_ok Told (Live S (counted l es))
       (λ b. b.answer.refusal ≡ 0
       → Rest (returned (counted l es) (returns_padding b.out b.answer.actions)) b.answer.framework)
       fw tables time es D out (λ e. runs D tells time es l fw r s small) (λ e z. absurd (e z))
@@ -178,6 +178,6 @@ pub refused_law : (fw : Framework) (tables : Tables) (time : ℕ) (es : List ℕ
     → ((batch fw tables time es D out).answer.refusal ≡ 0 → ⊥)
     → (batch fw tables time es D out).answer.framework ≡ fw
 refused_law fw tables time es D out =
-    batch-ok (λ n. Unit) (λ x. Unit) (λ b. (b.answer.refusal ≡ 0 → ⊥) → b.answer.framework ≡ fw)
+    batch_ok (λ n. Unit) (λ x. Unit) (λ b. (b.answer.refusal ≡ 0 → ⊥) → b.answer.framework ≡ fw)
     fw tables time es D out (λ e. ok_any (trigger_events tables D time es fw)) (λ e h. refl) (λ e n r h. refl)
     (λ e x q h. absurd (h refl))

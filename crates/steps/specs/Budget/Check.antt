@@ -131,8 +131,8 @@ module _ (c : Context) (r : MachineRuntime) (passed : below_limit_padding c r �
   stops : below_limit_padding c r ≡ false → ⊥
   stops e = false≢true (sym e ∙ passed)
 
-  pub own-passed : OwnLaw (numbers_of c r)
-  own-passed k h small = elim (dec_lt r.counts.padding_sent c.allowed_padding_packets) [
+  pub own_passed : OwnLaw (numbers_of c r)
+  own_passed k h small = elim (dec_lt r.counts.padding_sent c.allowed_padding_packets) [
     | yes a ↦ inl a
     | no a ↦ inr (elim (ℕ_discrete (total r) 0) [
       | yes z ↦ inl z
@@ -143,8 +143,8 @@ module _ (c : Context) (r : MachineRuntime) (passed : below_limit_padding c r �
     ])
   ]
 
-  pub all-passed : AllLaw (numbers_of c r)
-  all-passed k h less later small = elim (dec_lt r.counts.padding_sent c.allowed_padding_packets) [
+  pub all_passed : AllLaw (numbers_of c r)
+  all_passed k h less later small = elim (dec_lt r.counts.padding_sent c.allowed_padding_packets) [
     | yes a ↦ inl a
     | no a ↦ inr (elim (ℕ_discrete (total r) 0) [
       | yes z ↦ inl z
@@ -199,10 +199,10 @@ checks S = record {
   A = allowance S.tables;
   g = λ i. in1074 (fraction S.tables i);
   Pass = λ i p n s N. Passed (numbers_at S i p n s N);
-  own-law = λ i p n s N m h l k small x.
-      subst OwnLaw x.reads (own-passed x.context x.runtime x.passed)
+  own_law = λ i p n s N m h l k small x.
+      subst OwnLaw x.reads (own_passed x.context x.runtime x.passed)
       (of_bits-fits binary64 (machine_word S.tables.machines i max_padding_frac)) h
       (fewer p n s N l k small);
-  all-law = λ i p n s N m h l k small x.
-      subst AllLaw x.reads (all-passed x.context x.runtime x.passed) S.f64 h l k small;
+  all_law = λ i p n s N m h l k small x.
+      subst AllLaw x.reads (all_passed x.context x.runtime x.passed) S.f64 h l k small;
 }

@@ -1,6 +1,6 @@
 -- The invariant. `Inv l a` holds of a ledger l within a batch and of the machines a whose pending
--- action is SendPadding, and each step of a batch keeps it: an event's counts (`inv-count`),
--- transitions under unchanged counts (`inv-acts`) and the batch's end (`inv-end`). In words: what a
+-- action is SendPadding, and each step of a batch keeps it: an event's counts (`inv_count`),
+-- transitions under unchanged counts (`inv_acts`) and the batch's end (`inv_end`). In words: what a
 -- machine has sent, holds and is about to get is within its budget; and it is at most 2 and its
 -- allowance more than it had sent when a check last passed by the framework's fraction. Assumes
 -- nothing.
@@ -100,13 +100,13 @@ pub record Checks : Type 1 where
   pub A : ℕ → ℕ
   pub g : ℕ → ℕ
   pub Pass : ℕ → ℕ → ℕ → ℕ → ℕ → Type 0
-  pub own-law : (i p n s N : ℕ) → i < M → 0 < g i → p ≤ s → n ≤ N → s + N ≤ cap → Pass i p n s N
+  pub own_law : (i p n s N : ℕ) → i < M → 0 < g i → p ≤ s → n ≤ N → s + N ≤ cap → Pass i p n s N
       → (p < A i) ⊎ ((p + n ≡ 0) ⊎ (p * U < g i * (p + n)))
-  pub all-law : (i p n s N : ℕ) → i < M → 0 < G → p ≤ s → n ≤ N → s + N ≤ cap → Pass i p n s N
+  pub all_law : (i p n s N : ℕ) → i < M → 0 < G → p ≤ s → n ≤ N → s + N ≤ cap → Pass i p n s N
       → (p < A i) ⊎ ((p + n ≡ 0) ⊎ (s * U ≤ G * (s + N)))
 
 module _ (L : Checks) where
-  open L use {U, cap, M, G, A, g, Pass, own-law, all-law}
+  open L use {U, cap, M, G, A, g, Pass, own_law, all_law}
 
   -- Transitions under unchanged counts: where b has a SendPadding pending, a had, or a check passed at
   -- these counts.
@@ -130,12 +130,12 @@ module _ (L : Checks) where
     pub frame : 0 < G → Since l a
 
   -- a machine's padding is part of all padding
-  pub inv-owned : (l : Ledger) (a : ℕ → Bool) → Inv l a → (i : ℕ) → i < M → l.own i ≤ l.padding
-  inv-owned l a v i m = le_trans (one_of_sum M l.own i m) (le_of_eq (sym v.total))
+  pub inv_owned : (l : Ledger) (a : ℕ → Bool) → Inv l a → (i : ℕ) → i < M → l.own i ≤ l.padding
+  inv_owned l a v i m = le_trans (one_of_sum M l.own i m) (le_of_eq (sym v.total))
 
   -- ---- the opening
-  pub inv-open : Inv empty nobody
-  inv-open = record {
+  pub inv_open : Inv empty nobody
+  inv_open = record {
     holder = λ i t. absurd t;
     actor = λ i t. absurd t;
     total = sym (sum-none M);
@@ -190,18 +190,18 @@ module _ (L : Checks) where
       grows : (l : Ledger) → packets l ≤ packets (count l padding_sent k)
       grows l = omega arith
 
-  pub inv-count : (l : Ledger) (a : ℕ → Bool) (kind machine : ℕ) → Inv l a
+  pub inv_count : (l : Ledger) (a : ℕ → Bool) (kind machine : ℕ) → Inv l a
       → (kind ≡ padding_sent → T (l.held machine))
       → Inv (count l kind machine) a
-  inv-count l a kind machine v h =
+  inv_count l a kind machine v h =
       kind_cases (λ k. (k ≡ padding_sent → T (l.held machine)) → Inv (count l k machine) a)
       (λ e. inv-normal l a machine v)
       (λ e. inv-padding l a machine v (e refl))
       (λ k p q e. count_other (λ m. Inv m a) l machine k p q v) kind h
 
   -- ---- transitions
-  pub inv-acts : (l : Ledger) (a b : ℕ → Bool) → packets l ≤ cap → Inv l a → Acts l a b → Inv l b
-  inv-acts l a b small v h = record {
+  pub inv_acts : (l : Ledger) (a b : ℕ → Bool) → packets l ≤ cap → Inv l a → Acts l a b → Inv l b
+  inv_acts l a b small v h = record {
     holder = v.holder;
     actor = λ i t. (h i t).0;
     total = v.total;
@@ -230,7 +230,7 @@ module _ (L : Checks) where
         | inr t ↦
             below_pass (A i) U (g i) (l.own i) (heard l i) (l.own i + bit (l.held i) + 1)
             (two i true)
-            (own-law i (l.own i) (heard l i) l.padding l.normal m p (inv-owned l a v i m) (later l i) small t)
+            (own_law i (l.own i) (heard l i) l.padding l.normal m p (inv_owned l a v i m) (later l i) small t)
       ]
 
       local : 0 < G → (l.padding * U ≤ G * packets l → ⊥) → (q : ℕ → ℕ) (i : ℕ) → i < M
@@ -240,7 +240,7 @@ module _ (L : Checks) where
       local p no_all q i m d false k = omega arith
       local p no_all q i m d true k = elim (k tt).1 [
         | inl t ↦ le_trans (kept i t) d
-        | inr t ↦ pass (all-law i (l.own i) (heard l i) l.padding l.normal m p (inv-owned l a v i m) (later l i) small t)
+        | inr t ↦ pass (all_law i (l.own i) (heard l i) l.padding l.normal m p (inv_owned l a v i m) (later l i) small t)
       ]
         where
           pass : (l.own i < A i) ⊎ ((l.own i + heard l i ≡ 0) ⊎ (l.padding * U ≤ G * packets l))
@@ -261,8 +261,8 @@ module _ (L : Checks) where
           let f = v.frame p in (f.0, f.1, λ i m. local p k f.0 i m (f.2 i m) (b i) (h i))
 
   -- ---- a batch's end
-  pub inv-end : (l : Ledger) (a : ℕ → Bool) → Inv l a → Inv (returned l a) nobody
-  inv-end l a v = record {
+  pub inv_end : (l : Ledger) (a : ℕ → Bool) → Inv l a → Inv (returned l a) nobody
+  inv_end l a v = record {
     holder = λ i t. elim (or_of (l.held i) (a i) t) [ inl k ↦ v.holder i k | inr k ↦ v.actor i k ];
     actor = λ i t. absurd t;
     total = v.total;
@@ -276,18 +276,18 @@ module _ (L : Checks) where
       low i = let z = bit_or (l.held i) (a i) in omega arith
 
   -- ---- the budgets: x is A i + 2, or what the framework allows beyond its fraction; y is 2
-  pub machine-budget : (l : Ledger) (a : ℕ → Bool) → Inv l a → (i x y : ℕ) → i < M → 0 < g i
+  pub machine_budget : (l : Ledger) (a : ℕ → Bool) → Inv l a → (i x y : ℕ) → i < M → 0 < g i
       → A i + 2 ≤ x → 2 ≤ y
       → (l.own i ≤ x) ⊎ ((l.own i - y) * U < g i * (l.own i + heard l i))
-  machine-budget l a v i x y m p h k =
+  machine_budget l a v i x y m p h k =
       below_budget (A i) U (g i) (l.own i + heard l i) (l.own i) x y h k
       (below_less (A i) U (g i) (l.own i + heard l i) (l.own i) (due l a i) (omega arith)
       (v.machine i m p))
 
   -- 2 for each machine suffice
-  pub frame-budget : (l : Ledger) (a : ℕ → Bool) → Inv l a → (x : ℕ) → 0 < G → sum M A + 2 * M ≤ x
+  pub frame_budget : (l : Ledger) (a : ℕ → Bool) → Inv l a → (x : ℕ) → 0 < G → sum M A + 2 * M ≤ x
       → l.padding * U ≤ G * packets l + x * U
-  frame-budget l a v x p h =
+  frame_budget l a v x p h =
       let f = v.frame p in
       let q = f.0 in
       let s : sum M l.own ≤ sum M (λ i. q i + A i + 2) =

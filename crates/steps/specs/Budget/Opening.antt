@@ -19,15 +19,15 @@ use Rattle.machine.specs.Constants.{machine_max, machine_words, max_padding_frac
 use Rattle.machine.specs.State.{rows_of}
 use Rattle.numbers.specs.Finite.{zero_f}
 use Rattle.tables.specs.Framework.{is_fraction, fractions_refusal}
-use Rattle.tables.specs.Valid.Laws.{zero-valid}
+use Rattle.tables.specs.Valid.Laws.{zero_valid}
 use Rattle.tables.specs.Machine.{tables_refusal}
 use Rattle.steps.specs.Events.{Tables, Run, no_runtime, runtime_at, machine_word}
 use Rattle.steps.specs.Framework.{rows_in, open_run, open_refusal, opening}
-use Rattle.steps.specs.Runs.{stored_all, Ok, ok_any, none_of, opening-ok}
+use Rattle.steps.specs.Runs.{stored_all, Ok, ok_any, none_of, opening_ok}
 use Rattle.steps.specs.Draws.{by_told}
-use Rattle.steps.specs.Machines.{comes_in, opening-kept}
+use Rattle.steps.specs.Machines.{comes_in, opening_kept}
 use Rattle.steps.specs.Budget.{empty}
-use Rattle.steps.specs.Budget.Invariant.{inv-open}
+use Rattle.steps.specs.Budget.Invariant.{inv_open}
 use Rattle.steps.specs.Budget.Check.{Setup, checks}
 use Rattle.steps.specs.Budget.Machine.{Has, Told}
 use Rattle.steps.specs.Budget.Runs.{Frame}
@@ -38,19 +38,19 @@ not_zero n e = omega arith
 
 -- ---- the tables of an accepted opening
 module _ (machines states ts : List ℕ) (ok : tables_refusal machines states ts ≡ 0) where
-  pub at-most-16 : rows_in machines ≤ machine_max
-  at-most-16 = (zero-valid machines states ts ok).whole.most
+  pub at_most_16 : rows_in machines ≤ machine_max
+  at_most_16 = (zero_valid machines states ts ok).whole.most
 
   -- a machine's fraction above 0 has units: it is not above 1
-  pub machine-units : (i : ℕ) → i < rows_in machines
+  pub machine_units : (i : ℕ) → i < rows_in machines
       → lt zero_f (of_bits binary64 (machine_word machines i max_padding_frac)) ≡ true
       → 0 < in1074 (of_bits binary64 (machine_word machines i max_padding_frac))
   unfolding of_bits rows_of
-  machine-units i h above =
+  machine_units i h above =
       positive_units (of_bits binary64 w) (of_bits-fits binary64 w)
       (limit_positive (of_bits binary64 w) above
       (ap (λ (v : ℕ). lt (of_bits binary64 0x3ff0_0000_0000_0000) (of_bits binary64 v)) (sym word)
-      ∙ ((zero-valid machines states ts ok).each i h).padding.1))
+      ∙ ((zero_valid machines states ts ok).each i h).padding.1))
     where
       w : ℕ
       w = machine_word machines i max_padding_frac
@@ -97,7 +97,7 @@ pub passed : (tables : Tables) (F blocking : Float) (time : ℕ) (source : Sourc
 passed tables F blocking time source ok =
     none_of (fractions_refusal F blocking)
     (tables_refusal tables.machines tables.states tables.transitions)
-    (opening-ok (λ n. Unit) (λ x. Unit) (λ o. o.refusal ≡ 0 → open_refusal tables F blocking ≡ 0)
+    (opening_ok (λ n. Unit) (λ x. Unit) (λ o. o.refusal ≡ 0 → open_refusal tables F blocking ≡ 0)
     tables F blocking time source (λ e. ok_any (open_run tables F blocking time source))
     (λ e h. absurd (e h)) (λ e n r h. e) (λ e x q h. e) ok)
 
@@ -111,7 +111,7 @@ module _ (S : Setup) (blocking : Float) (time : ℕ) (source : Source Place) (te
   run_ok : Ok Told Counts (open_run tables F blocking time source)
   unfolding Counts
   run_ok =
-      opening-kept Told Counts tables source (by_told source tells) comes F blocking time (
+      opening_kept Told Counts tables source (by_told source tells) comes F blocking time (
         record {
           machines = refl;
           frac = refl;
@@ -138,7 +138,7 @@ module _ (S : Setup) (blocking : Float) (time : ℕ) (source : Source Place) (te
       → Rest S empty (opening tables F blocking time source).framework
   unfolding Counts
   rests =
-      opening-ok Told Counts (λ o. o.refusal ≡ 0 → Rest S empty o.framework) tables F blocking time source
+      opening_ok Told Counts (λ o. o.refusal ≡ 0 → Rest S empty o.framework) tables F blocking time source
       (λ e. run_ok) (λ e z. absurd (e z))
       (λ e n w z. absurd (lt_irrefl 0 (subst (λ (j : ℕ). 0 < j) z w)))
-      (λ e x w z. record { inv = inv-open (checks S); frame = w.0; at = λ i h. w.1 i })
+      (λ e x w z. record { inv = inv_open (checks S); frame = w.0; at = λ i h. w.1 i })

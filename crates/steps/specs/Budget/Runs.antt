@@ -12,7 +12,7 @@ use Rattle.steps.specs.Events.{Run, num_machines, no_runtime, runtime_at, with_r
 use Rattle.steps.specs.Runs.{Ok}
 use Rattle.steps.specs.Walk.{Stays}
 use Rattle.steps.specs.Budget.{Ledger, packets, allowance, fraction}
-use Rattle.steps.specs.Budget.Invariant.{heard, Acts, Inv, inv-acts}
+use Rattle.steps.specs.Budget.Invariant.{heard, Acts, Inv, inv_acts}
 use Rattle.steps.specs.Budget.Check.{Passed, numbers_at, Setup, machines_of, checks}
 use Rattle.steps.specs.Budget.Machine.{is_padding, Has, Told, kept}
 use Rattle.steps.specs.declared.MachineRuntime.{MachineRuntime}
@@ -63,11 +63,11 @@ module _ (S : Setup) where
   abbrev pub Why : Ledger → (ℕ → Bool) → ℕ → Type 0
   Why l a i = T (a i) ⊎ Passed (numbers_at S i (l.own i) (heard l i) l.padding l.normal)
 
-  pub by-check : (l : Ledger) (a : ℕ → Bool) (fw : Framework) → Frame l fw
+  pub by_check : (l : Ledger) (a : ℕ → Bool) (fw : Framework) → Frame l fw
       → (i : ℕ) (r : MachineRuntime)
       → Has (l.own i) (heard l i) r
       → below_limit_padding (context_of tables.machines i fw.current_time fw.fixed fw.totals) r ≡ true → Why l a i
-  by-check l a fw f i r h b = inr (record {
+  by_check l a fw f i r h b = inr (record {
     context = context_of tables.machines i fw.current_time fw.fixed fw.totals;
     runtime = r;
     reads = λ z. record {
@@ -143,17 +143,17 @@ module _ (S : Setup) where
             t),
       )
 
-  pub num-is : (l : Ledger) (fw : Framework) → Frame l fw → num_machines fw ≡ M
-  num-is l fw f = let e = f.machines in omega (arith, few)
+  pub num_is : (l : Ledger) (fw : Framework) → Frame l fw → num_machines fw ≡ M
+  num_is l fw f = let e = f.machines in omega (arith, few)
 
   -- the invariant of a batch: what its SendPaddings owe, and its counts
   abbrev pub Live : Ledger → Run → Type 0
   Live l x = Inv (checks S) l (sends x) × Same l x
 
-  pub mid-live : (l l' : Ledger) (x y : Run) (k : ℕ) → packets l' ≤ 2 ^ 53 → Inv (checks S) l' (sends x)
+  pub mid_live : (l l' : Ledger) (x y : Run) (k : ℕ) → packets l' ≤ 2 ^ 53 → Inv (checks S) l' (sends x)
       → Mid l l' (sends x) k 0 y → Live l' y
-  mid-live l l' x y k small v m = (
-    inv-acts (checks S) l' (sends x) (sends y) small v m.acts,
+  mid_live l l' x y k small v m = (
+    inv_acts (checks S) l' (sends x) (sends y) small v m.acts,
     record { frame = m.frame; room = m.room; at = λ i h. m.had i h (side i) },
   )
     where

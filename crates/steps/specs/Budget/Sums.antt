@@ -41,10 +41,10 @@ plus_grows own k i = go (eqb k i)
     go true = omega arith
     go false = omega arith
 
-sum_plus_out : (m : ℕ) (own : ℕ → ℕ) (i : ℕ) → m ≤ i → sum m (plus own i) ≡ sum m own
-sum_plus_out zero own i h = refl
-sum_plus_out (suc m) own i h =
-    let a = sum_plus_out m own i (omega arith) in
+sum-plus-out : (m : ℕ) (own : ℕ → ℕ) (i : ℕ) → m ≤ i → sum m (plus own i) ≡ sum m own
+sum-plus-out zero own i h = refl
+sum-plus-out (suc m) own i h =
+    let a = sum-plus-out m own i (omega arith) in
     let b = plus_other own i m (λ e. omega arith) in
     omega arith
 
@@ -53,7 +53,7 @@ sum-plus zero own i h = omega arith
 sum-plus (suc m) own i h = elim (eq-or-lt_of_le h) [
   | inl e ↦
       let k : i ≡ m = omega arith in
-      let a = sum_plus_out m own i (omega arith) in
+      let a = sum-plus-out m own i (omega arith) in
       let b : plus own i m ≡ suc (own m) =
       subst (λ (j : ℕ). plus own i j ≡ suc (own j)) k (plus_same own i) in
       omega arith

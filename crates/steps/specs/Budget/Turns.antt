@@ -12,16 +12,16 @@ use Rattle.machine.specs.Event.{normal_sent, padding_sent, blocking_begin, block
 use Rattle.steps.specs.Transition.{Env, no_action, transition}
 use Rattle.steps.specs.Events.{Run, Outcome, each, num_machines, runtime_at, env_of, blocked_now, totals_after, with_totals, with_blocking, accounted, limit_falls, turn, machine_turn, account, first_for, turns_for, process_event, signal_machine, signals}
 use Rattle.steps.specs.Limits.{blocking_on}
-use Rattle.steps.specs.Runs.{either, Ok, ok-map, each-ok, turn_range, no_turn, signals-kept}
-use Rattle.steps.specs.Walk.{transition-kept, turn-kept}
+use Rattle.steps.specs.Runs.{either, Ok, ok_map, each_ok, turn_range, no_turn, signals_kept}
+use Rattle.steps.specs.Walk.{transition_kept, turn_kept}
 use Rattle.steps.specs.Budget.{Ledger, count, packets}
-use Rattle.steps.specs.Budget.Invariant.{heard, kind_cases, inv-owned, inv-count}
+use Rattle.steps.specs.Budget.Invariant.{heard, kind_cases, inv_owned, inv_count}
 use Rattle.steps.specs.Budget.Machine.{Told, kept, closed}
 use Rattle.steps.specs.declared.Framework.{Framework}
 use Rattle.steps.specs.declared.Totals.{Totals}
 use Rattle.steps.specs.Budget.Counts.{one_more, counted_has, uncounted}
 use Rattle.steps.specs.Budget.Check.{Setup, machines_of, checks}
-use Rattle.steps.specs.Budget.Runs.{Frame, sends, Mid, Why, by-check, store, num-is, Live, mid-live}
+use Rattle.steps.specs.Budget.Runs.{Frame, sends, Mid, Why, by_check, store, num_is, Live, mid_live}
 
 module _ (S : Setup) where
   open S use {tables}
@@ -73,15 +73,15 @@ module _ (S : Setup) where
             room = f.room;
           }
 
-  pub event-ok : (D : Source Place) (tells : Telling D) (l : Ledger) (kind machine : ℕ) (x : Run) → Live S l x
+  pub event_ok : (D : Source Place) (tells : Telling D) (l : Ledger) (kind machine : ℕ) (x : Run) → Live S l x
       → (kind ≡ padding_sent → T (l.held machine))
       → packets (count l kind machine) ≤ 2 ^ 53
       → Ok Told (Live S (count l kind machine)) (process_event tables D kind machine x)
   unfolding process_event
-  event-ok D tells l kind machine x (v, s) h small =
-      ok-map Told (λ y. (j : ℕ) × P zero j y) (Live S l') (each f n (first_for kind machine) (account kind x))
-      (each-ok Told P f step n (first_for kind machine) (account kind x) (range, start))
-      (λ y q. mid-live S l l' x y q.0 small (inv-count (checks S) l (sends S x) kind machine v h)
+  event_ok D tells l kind machine x (v, s) h small =
+      ok_map Told (λ y. (j : ℕ) × P zero j y) (Live S l') (each f n (first_for kind machine) (account kind x))
+      (each_ok Told P f step n (first_for kind machine) (account kind x) (range, start))
+      (λ y q. mid_live S l l' x y q.0 small (inv_count (checks S) l (sends S x) kind machine v h)
       q.1.1)
     where
       l' : Ledger
@@ -100,7 +100,7 @@ module _ (S : Setup) where
       P n k y = ((i : ℕ) → k ≤ i → i < k + n → Turns i) × Mid S l l' (sends S x) k n y
 
       num : num_machines x.framework ≡ machines_of S
-      num = num-is S l x.framework s.frame
+      num = num_is S l x.framework s.frame
 
       range : (i : ℕ) → first_for kind machine ≤ i → i < first_for kind machine + n → Turns i
       range i p q =
@@ -124,17 +124,17 @@ module _ (S : Setup) where
           let mine = r k (le_refl k) (omega arith) in
           let E = env_of tables D y.framework k in
           unfold machine_turn in
-          ok-map Told (Mid S l l' (sends S x) (k + 1) n) (P n (k + 1)) (f k y)
+          ok_map Told (Mid S l l' (sends S x) (k + 1) n) (P n (k + 1)) (f k y)
           (store S l l' (sends S x) k n y m mine.0
           (turn E kind (limit_falls kind machine k) (blocked_now x.framework)
           (runtime_at y.framework k) y.shared (get_or y.actions k no_action))
-          (turn-kept E (kept (l'.own k) (heard l' k) (Why S l' (sends S x) k))
+          (turn_kept E (kept (l'.own k) (heard l' k) (Why S l' (sends S x) k))
           (closed E tells (l'.own k) (heard l' k) (Why S l' (sends S x) k)
-          (by-check S l' (sends S x) y.framework m.frame k))
+          (by_check S l' (sends S x) y.framework m.frame k))
           kind (limit_falls kind machine k) (blocked_now x.framework) (runtime_at y.framework k)
           y.shared (get_or y.actions k no_action)
           (counted_has l machine (blocked_now x.framework) k (runtime_at y.framework k)
-          (inv-owned (checks S) l (sends S x) v k mine.0) (m.waits k (le_refl k) (omega arith)) kind
+          (inv_owned (checks S) l (sends S x) v k mine.0) (m.waits k (le_refl k) (omega arith)) kind
           small mine.1)
           (λ t. (m.acts k t).1) tt))
           (λ z w. ((λ i p q. r i (omega arith) (omega arith)), w))
@@ -144,15 +144,15 @@ module _ (S : Setup) where
       → Live S l x → Ok Told (Live S l) (signal_machine tables D i x)
   unfolding signal_machine
   signal-ok D tells l i h small x (v, s) =
-      ok-map Told (Mid S l l (sends S x) (i + 1) 0) (Live S l) (signal_machine tables D i x)
+      ok_map Told (Mid S l l (sends S x) (i + 1) 0) (Live S l) (signal_machine tables D i x)
       (store S l l (sends S x) i 0 x start h
       (transition E signal (runtime_at x.framework i) x.shared (get_or x.actions i no_action))
-      (transition-kept E (kept (l.own i) (heard l i) (Why S l (sends S x) i))
+      (transition_kept E (kept (l.own i) (heard l i) (Why S l (sends S x) i))
       (closed E tells (l.own i) (heard l i) (Why S l (sends S x) i)
-      (by-check S l (sends S x) x.framework s.frame i))
+      (by_check S l (sends S x) x.framework s.frame i))
       signal (runtime_at x.framework i) x.shared (get_or x.actions i no_action) (s.at i h)
       (λ t. inl t) tt))
-      (λ y m. mid-live S l l x y (i + 1) small v m)
+      (λ y m. mid_live S l l x y (i + 1) small v m)
     where
       E : Env
       E = env_of tables D x.framework i
@@ -166,9 +166,9 @@ module _ (S : Setup) where
         acts = λ j t. (v.actor j t, inl t);
       }
 
-  pub signals-ok : (D : Source Place) (tells : Telling D) (l : Ledger) → packets l ≤ 2 ^ 53 → (x : Run) → Live S l x
+  pub signals_ok : (D : Source Place) (tells : Telling D) (l : Ledger) → packets l ≤ 2 ^ 53 → (x : Run) → Live S l x
       → Ok Told (Live S l) (signals tables D x)
-  signals-ok D tells l small =
-      signals-kept Told (Live S l) tables D (machines_of S) (λ x v. num-is S l x.framework v.1.frame)
+  signals_ok D tells l small =
+      signals_kept Told (Live S l) tables D (machines_of S) (λ x v. num_is S l x.framework v.1.frame)
       (λ x v. (v.0, record { frame = v.1.frame; room = v.1.room; at = v.1.at }))
       (λ i h. signal-ok D tells l i h small)

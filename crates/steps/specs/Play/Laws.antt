@@ -1,13 +1,13 @@
 -- What holds of every tree of questions, and so of the steps. The draws that a source gives on its way down are worked out
 -- (`worked_out`); an honest source runs as the two tapes do on them, which are then used up (`follows`), and refuses as 16 alone
--- (`only-16`). Counting attempts and draws changes nothing (`counts-dropped`); what bounds the counts at every leaf bounds them in every run (`run-below`),
--- and on two tapes of the bounds' lengths 17 is the only refusal (`only-17`). Assumes nothing.
+-- (`only_16`). Counting attempts and draws changes nothing (`counts_dropped`); what bounds the counts at every leaf bounds them in every run (`run_below`),
+-- and on two tapes of the bounds' lengths 17 is the only refusal (`only_17`). Assumes nothing.
 use Rattle.std.specs.Prelude.{ℕ, zero, suc, ◌+◌, ◌-◌, ◌≤◌, ◌<◌, Bool, true, false, cond, List, [], ◌∷◌, ◌≡◌, refl, length, get_or, drop, Float}
 use Rattle.std.proofs.Common.{arith, sym, ap, ◌∙◌, length-drop, lt-ltb, le-ltb}
 use Rattle.std.specs.Float.{nan}
 use Rattle.machine.specs.Source.{Drawn, no, got, Source, fit_chance, fit_uniform, any_value, place, on_tape, tapes}
 use Rattle.machine.specs.declared.source.Place.{Place}
-use Rattle.steps.specs.Play.{Play, ends, attempts, ask_chance, ask_uniform, ask_outside, after, run, Alike, run-alike, Counts, attempted, chanced, valued, Leaves, Bounds, Served}
+use Rattle.steps.specs.Play.{Play, ends, attempts, ask_chance, ask_uniform, ask_outside, after, run, Alike, run_alike, Counts, attempted, chanced, valued, Leaves, Bounds, Served}
 
 -- ---- The draws that a source gives on its way down a tree: the tapes worked out, chances and values, each in the order of asking.
 pub record Given : Type 0 where
@@ -158,14 +158,14 @@ module _ {S : Type 0} (D : Source S) (honest : Honest D) where
   refuses k fit f (no n s) h = h
   refuses k fit f (got x s) h = f x s
 
-  pub only-16 : {A : Type 0} (t : Play A) → Served t → (s : S) → Only16 (run D t s)
-  only-16 (ends a) h s = tt
-  only-16 (attempts e m t) h s = only-16 t h (D.attempt e m s)
-  only-16 (ask_chance k) h s = refuses k fit_chance (λ x. only-16 (k x) (h x)) (D.chance s) (honest.chance s)
-  only-16 (ask_uniform low high k) h s =
-      refuses k (fit_uniform low high) (λ x. only-16 (k x) (h.1 x)) (D.values.uniform low high s)
+  pub only_16 : {A : Type 0} (t : Play A) → Served t → (s : S) → Only16 (run D t s)
+  only_16 (ends a) h s = tt
+  only_16 (attempts e m t) h s = only_16 t h (D.attempt e m s)
+  only_16 (ask_chance k) h s = refuses k fit_chance (λ x. only_16 (k x) (h x)) (D.chance s) (honest.chance s)
+  only_16 (ask_uniform low high k) h s =
+      refuses k (fit_uniform low high) (λ x. only_16 (k x) (h.1 x)) (D.values.uniform low high s)
       (honest.uniform low high h.0 s)
-  only-16 (ask_outside k) h s = absurd h
+  only_16 (ask_outside k) h s = absurd h
 
 -- ---- counting: a source beside which attempts and draws are counted
 abbrev beside : {S A : Type 0} → Drawn S A → Counts → Counts → Drawn (S × Counts) A
@@ -191,9 +191,9 @@ module _ {S : Type 0} (i : ℕ) (D : Source S) where
   beside-alike (no n s) k k' = (refl, refl)
   beside-alike (got a s) k k' = (refl, refl)
 
-  pub counts-dropped : {A : Type 0} (t : Play A) (s : S) (k : Counts) → Alike countless (run (counting i D) t (s, k)) (run D t s)
-  counts-dropped t s k =
-      run-alike countless (counting i D) D
+  pub counts_dropped : {A : Type 0} (t : Play A) (s : S) (k : Counts) → Alike countless (run (counting i D) t (s, k)) (run D t s)
+  counts_dropped t s k =
+      run_alike countless (counting i D) D
       (record {
         attempt = λ e m s s' r. ap (D.attempt e m) r;
         chance = λ s s' r. rw (sym r) (beside-alike (D.chance s.0) s.1 (chanced s.1));
@@ -226,17 +226,17 @@ module _ {S : Type 0} (i : ℕ) (D : Source S) (b : Counts) where
   counted-on f k k' h g (no n s) = h
   counted-on f k k' h g (got x s) = g x s
 
-  pub run-below : {A : Type 0} (t : Play A) (s : S) (k : Counts) → Leaves i (λ a. Below b) t k
+  pub run_below : {A : Type 0} (t : Play A) (s : S) (k : Counts) → Leaves i (λ a. Below b) t k
       → CountsOf (Below b) (run (counting i D) t (s, k))
-  run-below (ends a) s k h = h
-  run-below (attempts e m t) s k h = run-below t (D.attempt e m s) (attempted i e m k) h
-  run-below (ask_chance f) s k h =
-      counted-on f k (chanced k) (leaf_below i b (ask_chance f) k h) (λ x s. run-below (f x) s (chanced k) (h x)) (D.chance s)
-  run-below (ask_uniform low high f) s k h =
-      counted-on f k (valued k) (leaf_below i b (ask_uniform low high f) k h) (λ x s. run-below (f x) s (valued k) (h x))
+  run_below (ends a) s k h = h
+  run_below (attempts e m t) s k h = run_below t (D.attempt e m s) (attempted i e m k) h
+  run_below (ask_chance f) s k h =
+      counted-on f k (chanced k) (leaf_below i b (ask_chance f) k h) (λ x s. run_below (f x) s (chanced k) (h x)) (D.chance s)
+  run_below (ask_uniform low high f) s k h =
+      counted-on f k (valued k) (leaf_below i b (ask_uniform low high f) k h) (λ x s. run_below (f x) s (valued k) (h x))
       (D.values.uniform low high s)
-  run-below (ask_outside f) s k h =
-      counted-on f k (valued k) (leaf_below i b (ask_outside f) k h) (λ x s. run-below (f x) s (valued k) (h x))
+  run_below (ask_outside f) s k h =
+      counted-on f k (valued k) (leaf_below i b (ask_outside f) k h) (λ x s. run_below (f x) s (valued k) (h x))
       (D.values.outside s)
 
 -- ---- tapes of the length of the bounds are long enough: 17 is the only refusal
@@ -254,19 +254,19 @@ module _ (i : ℕ) (b : Counts) (cs vs : List Float) (long-c : b.chances ≤ len
       by true = g (get_or tape at nan)
       by false = refl
 
-  pub only-17 : {A : Type 0} (t : Play A) (k : Counts) → Leaves i (λ a. Below b) t k
+  pub only_17 : {A : Type 0} (t : Play A) (k : Counts) → Leaves i (λ a. Below b) t k
       → Only17 (run (tapes cs vs) t (place k.chances k.values))
-  only-17 (ends a) k h = tt
-  only-17 (attempts e m t) k h = only-17 t (attempted i e m k) h
-  only-17 (ask_chance f) k h =
+  only_17 (ends a) k h = tt
+  only_17 (attempts e m t) k h = only_17 t (attempted i e m k) h
+  only_17 (ask_chance f) k h =
       let w = leaf_below i b (f nan) (chanced k) (h nan) in
       unfit fit_chance cs k.chances (place (k.chances + 1) k.values) (place k.chances k.values) f
-      (omega (arith, w, long-c)) (λ x. only-17 (f x) (chanced k) (h x))
-  only-17 (ask_uniform low high f) k h =
+      (omega (arith, w, long-c)) (λ x. only_17 (f x) (chanced k) (h x))
+  only_17 (ask_uniform low high f) k h =
       let w = leaf_below i b (f nan) (valued k) (h nan) in
       unfit (fit_uniform low high) vs k.values (place k.chances (k.values + 1)) (place k.chances k.values) f
-      (omega (arith, w, long-v)) (λ x. only-17 (f x) (valued k) (h x))
-  only-17 (ask_outside f) k h =
+      (omega (arith, w, long-v)) (λ x. only_17 (f x) (valued k) (h x))
+  only_17 (ask_outside f) k h =
       let w = leaf_below i b (f nan) (valued k) (h nan) in
       unfit any_value vs k.values (place k.chances (k.values + 1)) (place k.chances k.values) f
-      (omega (arith, w, long-v)) (λ x. only-17 (f x) (valued k) (h x))
+      (omega (arith, w, long-v)) (λ x. only_17 (f x) (valued k) (h x))

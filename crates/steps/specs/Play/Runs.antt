@@ -20,8 +20,8 @@ use Rattle.steps.specs.Transition.{no_action}
 use Rattle.steps.specs.Events.{Tables, Run, Outcome, stop, go, and_then, each, num_machines, runtime_at, with_runtime, machine_word, context_of, states_of, stored, accounted, blocked_now, limit_falls, machine_turn, first_for, turns_for, own_only, process_event, kind_at, machine_at, event_turn, signal_machine, signal_turn, last_signal, signals}
 use Rattle.steps.specs.Framework.{none_zeroed, no_actions, with_time, new_runtime, start_limit, opened_with, open_machine, opened, open_turn, kinds_fit}
 use Rattle.steps.specs.Play.{Counts, one, RowServed, Plays, plays_end, plays_cond, plays_weaken, plays_on, plays_then}
-use Rattle.steps.specs.Play.Samples.{whole_drawn, entered, Spent, limit-plays}
-use Rattle.steps.specs.Play.Steps.{Flags, shared, Stepping, stepped, Took, Attempt, Ordinary, transition-plays, turn-plays}
+use Rattle.steps.specs.Play.Samples.{whole_drawn, entered, Spent, limit_plays}
+use Rattle.steps.specs.Play.Steps.{Flags, shared, Stepping, stepped, Took, Attempt, Ordinary, transition_plays, turn_plays}
 use Rattle.steps.specs.declared.MachineRuntime.{MachineRuntime}
 use Rattle.steps.specs.declared.Context.{Context}
 use Rattle.steps.specs.declared.Framework.{Framework}
@@ -113,7 +113,7 @@ module _ (Sound : Type 0) (M : ℕ) where
     machine-plays kind machine blocked j x =
         plays_weaken Sound outcome _ _ _ (λ i y k k' h o m. told y k k' o (h m))
         (stored-plays x j _ _
-        (turn-plays Sound (states_of T j) T.transitions (context_in x j) (λ s. served s j) kind (limit_falls kind machine j) blocked
+        (turn_plays Sound (states_of T j) T.transitions (context_in x j) (λ s. served s j) kind (limit_falls kind machine j) blocked
         (runtime_at x.framework j) x.flags (get_or x.actions j no_action)))
       where
         told : (y : Running) (k k' : Counts) → Ordinary (event_of kind)
@@ -150,9 +150,9 @@ module _ (Sound : Type 0) (M : ℕ) where
       | Dec.no e ↦ (let t = falls-once b q n (j + 1) in omega (arith, t, apart j q b e))
     ]
 
-    no-signal : (n j : ℕ) → total (λ j. 0) n j ≡ 0
-    no-signal zero j = refl
-    no-signal (suc n) j = let t = no-signal n (j + 1) in omega (arith, t)
+    no_signal : (n j : ℕ) → total (λ j. 0) n j ≡ 0
+    no_signal zero j = refl
+    no_signal (suc n) j = let t = no_signal n (j + 1) in omega (arith, t)
 
     turns-few : (kind machine m : ℕ) → turns_for kind machine m ≤ m
     turns-few kind machine m = by (own_only kind) (ltb machine m) (ltb-true machine m)
@@ -194,7 +194,7 @@ module _ (Sound : Type 0) (M : ℕ) where
             m,
             turns-few kind machine (num_machines x.framework),
             falls-once own machine turns (first_for kind machine),
-            no-signal turns (first_for kind machine),
+            no_signal turns (first_for kind machine),
           ),
         )
 
@@ -243,7 +243,7 @@ module _ (Sound : Type 0) (M : ℕ) where
         told : (y : Running) (k k' : Counts)
             → Has M y × Took (total (λ j. M + 1) (length es / 2) 0) (total (λ j. 0) (length es / 2) 0) x.flags y.flags k k'
             → Has M y × Took (length es / 2 * (M + 1)) 0 x.flags y.flags k k'
-        told y k k' w = (w.0, omega (arith, w.1, many (length es / 2) 0, no-signal (length es / 2) 0))
+        told y k k' w = (w.0, omega (arith, w.1, many (length es / 2) 0, no_signal (length es / 2) 0))
 
     -- ---- signals: a round leaves one machine out, and that one is signalled last
     signal-plays : (j : ℕ) (x : Running)
@@ -252,7 +252,7 @@ module _ (Sound : Type 0) (M : ℕ) where
     signal-plays j x =
         plays_weaken Sound outcome _ _ _ (λ i y k k' h m. told i y k k' (h m))
         (stored-plays x j _ _
-        (transition-plays Sound (states_of T j) T.transitions (context_in x j) (λ s. served s j) signal
+        (transition_plays Sound (states_of T j) T.transitions (context_in x j) (λ s. served s j) signal
         (runtime_at x.framework j) x.flags (get_or x.actions j no_action)))
       where
         told : (i : ℕ) (y : Running) (k k' : Counts)
@@ -413,11 +413,11 @@ module _ (Sound : Type 0) (M : ℕ) where
             took h = h
 
     -- ---- the batch
-    pub batch-plays : (es : List ℕ) (x : Running)
+    pub batch_plays : (es : List ℕ) (x : Running)
         → Plays Sound outcome
         (λ i y k k'. kinds_fit es (length es / 2) ≡ true → Costs M (length es / 2 * (M + 1) + M) 1 x y k k')
         (λ D s. and_then (each (event_turn T D es) (length es / 2) 0 (run_of x s)) (signals T D))
-    batch-plays es x =
+    batch_plays es x =
         plays_then Sound outcome _ outcome (λ y i. Costs M M 1 y) _
         (λ D s. each (event_turn T D es) (length es / 2) 0 (run_of x s)) (λ D o. and_then o (signals T D))
         (events-plays es x) (λ D n s. refl) signals-plays
@@ -441,7 +441,7 @@ module _ (Sound : Type 0) (T : Tables) (served : Sound → (i state : ℕ) → R
       by false =
           plays_then Sound whole_drawn (λ i a. Spent 1) entered (λ a i r. Spent 0) _
           (λ D s. sample_limit row D.values s) (λ D. opened_with time allowed)
-          (limit-plays Sound row (λ s. served s j 0)) (λ D n s. refl)
+          (limit_plays Sound row (λ s. served s j 0)) (λ D n s. refl)
           (λ a. plays_end Sound entered _ _ (new_runtime time allowed a) (λ D s. refl) (λ i k. omega arith))
           (λ i a r k k' k'' h m. omega (arith, h, m))
 
@@ -462,11 +462,11 @@ module _ (Sound : Type 0) (T : Tables) (served : Sound → (i state : ℕ) → R
         flags = x.flags;
       }
 
-  pub open-plays : (n j : ℕ) (x : Running)
+  pub open_plays : (n j : ℕ) (x : Running)
       → Plays Sound outcome (λ i y k k'. k'.values ≤ k.values + n) (λ D s. each (open_turn T D) n j (run_of x s))
   unfolding each
-  open-plays zero j x = plays_end Sound outcome _ _ x (λ D s. refl) (λ i k. omega arith)
-  open-plays (suc n) j x =
+  open_plays zero j x = plays_end Sound outcome _ _ x (λ D s. refl) (λ i k. omega arith)
+  open_plays (suc n) j x =
       plays_then Sound outcome _ outcome (λ y i z k k'. k'.values ≤ k.values + n) _
       (λ D s. open_turn T D j (run_of x s)) (λ D o. and_then o (each (open_turn T D) n (j + 1))) (open-turn-plays j x)
-      (λ D n s. refl) (open-plays n (j + 1)) (λ i y z k k' k'' h m. omega (arith, h, m))
+      (λ D n s. refl) (open_plays n (j + 1)) (λ i y z k k' k'' h m. omega (arith, h, m))

@@ -137,10 +137,10 @@ module _ (Sound : Type 0) where
     served = served;
   }
 
-  pub sample-plays : (d : Dist) (served : Sound → TypeServed d.dist)
+  pub sample_plays : (d : Dist) (served : Sound → TypeServed d.dist)
       → Plays Sound value_drawn (λ i a. Spent 1) (λ D s. sample d D.values s)
   unfolding sample dist_sample
-  sample-plays d served =
+  sample_plays d served =
       plays_then Sound value_drawn (λ i a. Spent 1) value_drawn (λ a i b. Spent 0) (λ i b. Spent 1)
       (λ D s. sample_of_type d.dist D.values s) (λ D. adjusted_draw d) (of-type d.dist served) (λ D n s. refl)
       (λ a. plays_end Sound value_drawn (λ i b. Spent 0) _ (adjusted d a) (λ D s. refl) (λ i k. omega arith))
@@ -150,7 +150,7 @@ module _ (Sound : Type 0) where
       → Plays Sound whole_drawn (λ i a. Spent 1) (λ D s. whole_of f (sample d D.values s))
   whole-plays f d served =
       plays_then Sound value_drawn (λ i a. Spent 1) whole_drawn (λ a i b. Spent 0) (λ i b. Spent 1)
-      (λ D s. sample d D.values s) (λ D. whole_of f) (sample-plays d served) (λ D n s. refl)
+      (λ D s. sample d D.values s) (λ D. whole_of f) (sample_plays d served) (λ D n s. refl)
       (λ a. plays_end Sound whole_drawn (λ i b. Spent 0) _ (f a) (λ D s. refl) (λ i k. omega arith))
       (λ i a b k k' k'' h m. omega arith)
 
@@ -170,27 +170,27 @@ module _ (Sound : Type 0) where
         plays_cond Sound whole_drawn (λ i a. Spent 1) _ _ (has_duration row)
         (λ e. whole-plays (λ x. min (round_away x) max_sampled_duration) (dist_at row duration) (λ s. (served s).duration e)) (λ e. fixed 0)
 
-    pub limit-plays : Plays Sound whole_drawn (λ i a. Spent 1) (λ D s. sample_limit row D.values s)
+    pub limit_plays : Plays Sound whole_drawn (λ i a. Spent 1) (λ D s. sample_limit row D.values s)
     unfolding sample_limit
-    limit-plays =
+    limit_plays =
         plays_cond Sound whole_drawn (λ i a. Spent 1) _ _ (has_limit row)
         (λ e. whole-plays round_away (dist_at row limit) (λ s. (served s).limit e)) (λ e. fixed state_limit_max)
 
     -- ---- entering a state, and scheduling its action
-    pub enter-plays : (r : MachineRuntime) (state : ℕ)
+    pub enter_plays : (r : MachineRuntime) (state : ℕ)
         → Plays Sound entered (λ i a. Spent 1) (λ D s. enter row D.values r state s)
     unfolding enter
-    enter-plays r state =
+    enter_plays r state =
         plays_cond Sound entered (λ i a. Spent 1) _ _ (eqb r.current_state state)
         (λ e. plays_end Sound entered (λ i a. Spent 1) _ r (λ D s. refl) (λ i k. omega arith))
         (λ e. plays_then Sound whole_drawn (λ i a. Spent 1) entered (λ a i b. Spent 0) (λ i b. Spent 1)
-        (λ D s. sample_limit row D.values s) (λ D. entered_with r state) limit-plays (λ D n s. refl)
+        (λ D s. sample_limit row D.values s) (λ D. entered_with r state) limit_plays (λ D n s. refl)
         (λ a. plays_end Sound entered (λ i b. Spent 0) _ (with_state r state a) (λ D s. refl) (λ i k. omega arith))
         (λ i a b k k' k'' h m. omega arith))
 
-    pub schedule-plays : Plays Sound scheduled (λ i a. Spent 2) (λ D s. schedule_action row D.values s)
+    pub schedule_plays : Plays Sound scheduled (λ i a. Spent 2) (λ D s. schedule_action row D.values s)
     unfolding schedule_action
-    schedule-plays =
+    schedule_plays =
         plays_then Sound whole_drawn (λ i a. Spent 1) scheduled (λ a i b. Spent 1) (λ i b. Spent 2)
         (λ D s. sample_timeout row D.values s) (λ D. with_timeout row D.values) timeout-plays (λ D n s. refl) lasting
         (λ i a b k k' k'' h m. omega arith)
@@ -270,7 +270,7 @@ module _ (Sound : Type 0) where
         (λ c i t' k k'. (t' ≡ next c) × Spent 0 k k') (λ i. Tallies 1 t)
         (λ D s. update_one row counter_a D.values s old.counter_a old.counter_b t.zeroed.counter_a)
         (λ D s. tallied (with_a (tally t s))) (λ c D s. At (tally (next c) s))
-        (one-plays row counter_a (λ s. (served s).counter-a) old.counter_a old.counter_b t.zeroed.counter_a)
+        (one-plays row counter_a (λ s. (served s).counter_a_lem) old.counter_a old.counter_b t.zeroed.counter_a)
         (λ D n s₀ s. refl) (λ D c s₀ s. refl)
         (λ c. plays_end Sound tally_drawn _ _ (next c) (λ D s. refl) (λ i k. (refl, omega arith)))
         (λ i c t' k k' k'' h m. (omega (arith, h.0, m.1), rw m.0 (omega (arith, h.1, either_le t.reports c.reports))))
@@ -289,7 +289,7 @@ module _ (Sound : Type 0) where
         (λ c i t' k k'. (t' ≡ next c) × Spent 0 k k') (λ i. Tallies 1 t)
         (λ D s. update_one row counter_b D.values s old.counter_b old.counter_a t.zeroed.counter_b)
         (λ D s. tallied (with_b (tally t s))) (λ c D s. At (tally (next c) s))
-        (one-plays row counter_b (λ s. (served s).counter-b) old.counter_b old.counter_a t.zeroed.counter_b)
+        (one-plays row counter_b (λ s. (served s).counter_b_lem) old.counter_b old.counter_a t.zeroed.counter_b)
         (λ D n s₀ s. refl) (λ D c s₀ s. refl)
         (λ c. plays_end Sound tally_drawn _ _ (next c) (λ D s. refl) (λ i k. (refl, omega arith)))
         (λ i c t' k k' k'' h m. (omega (arith, h.0, m.1), rw m.0 (omega (arith, h.1, either_le t.reports c.reports))))
@@ -301,10 +301,10 @@ module _ (Sound : Type 0) where
           reports = t.reports || c.reports;
         }
 
-    pub counters-plays : (zeroed : Zeroed)
+    pub counters_plays : (zeroed : Zeroed)
         → Plays Sound tally_drawn (λ i. Tallies 2 (untold old zeroed)) (λ D s. update_counters row D.values old zeroed s)
     unfolding update_counters
-    counters-plays zeroed =
+    counters_plays zeroed =
         tally-next 1 (λ D. tally_a row D.values old) (λ D. tally_b row D.values old ∷ []) tally-a
         (tally-next 0 (λ D. tally_b row D.values old) (λ D. []) tally-b tally-none)
         (untold old zeroed)

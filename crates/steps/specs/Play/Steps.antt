@@ -18,7 +18,7 @@ use Rattle.steps.specs.Limits.{below_action_limits}
 use Rattle.steps.specs.Transition.{Env, env, no_action, with_state, with_counters, raise, enter, schedule_action, update_counters, scheduled_step, finish, finished, after_zero, after_counters, update_counter, entering, going, drawn, choosing, transition_by, zero_transition, transition, decrement_limit}
 use Rattle.steps.specs.Events.{counted_by, after_transition, turn}
 use Rattle.steps.specs.Play.{attempts, ask_chance, ends, after, Counts, one, attempted, leaves_map, RowServed, Plays, plays_end, plays_cond, plays_weaken, plays_on, plays_then}
-use Rattle.steps.specs.Play.Samples.{entered, scheduled, Tallying, tally_drawn, Spent, unreported, owed, Tallies, untold, enter-plays, schedule-plays, counters-plays}
+use Rattle.steps.specs.Play.Samples.{entered, scheduled, Tallying, tally_drawn, Spent, unreported, owed, Tallies, untold, enter_plays, schedule_plays, counters_plays}
 use Rattle.steps.specs.declared.MachineRuntime.{MachineRuntime}
 use Rattle.steps.specs.declared.Context.{Context}
 use Rattle.steps.specs.declared.Shared.{Shared}
@@ -167,7 +167,7 @@ module _ (Sound : Type 0) (rows transitions : List ℕ) (context : Context)
         (λ D s. update_counters row D.values r.counters F.zeroed s)
         (λ D s. after_counters (z D) (E D) r (shared F s) p)
         (λ t D s. after_counters (z D) (E D) r (shared F s) p (tally_drawn (got t s)))
-        (counters-plays Sound row served' r.counters F.zeroed)
+        (counters_plays Sound row served' r.counters F.zeroed)
         (λ D n s₀ s. refl) (λ D t s₀ s. refl) (report-plays r F p)
         (λ i t u k k' k'' h m. let w = m (omega (arith, h.1)) in omega (arith, h.0, w))
 
@@ -180,7 +180,7 @@ module _ (Sound : Type 0) (rows transitions : List ℕ) (context : Context)
         (λ p i d k k'. (d.flags ≡ u.flags) × Spent 0 k k') (λ i. StepsBy 0 2 u.flags)
         (λ D s. schedule_action row D.values s) (λ D s. scheduled_step (update u s) changed)
         (λ p D s. Done (record { runtime = u.runtime; shared = shared u.flags s; action = p; changed = changed }))
-        (schedule-plays Sound row served') (λ D n s₀ s. refl) (λ D p s₀ s. refl)
+        (schedule_plays Sound row served') (λ D n s₀ s. refl) (λ D p s₀ s. refl)
         (λ p. plays_end Sound stepped _ _ (record { runtime = u.runtime; flags = u.flags; action = p; changed = changed })
         (λ D s. refl) (λ i k. (refl, omega arith)))
         (λ i p d k k' k'' h m. rw m.0 (omega (arith, h, m.1))))
@@ -210,7 +210,7 @@ module _ (Sound : Type 0) (rows transitions : List ℕ) (context : Context)
         (λ e. plays_on Sound entered (λ i r. Spent 1) stepped (λ r i. StepsBy 0 4 F) (λ i. StepsBy 0 5 F)
         (λ D s. enter (state_row rows next) D.values r next s)
         (λ D s. entering (z D) (E D) (state_row rows next) r.current_state (shared F s) p) _
-        (enter-plays Sound (state_row rows next) here r next) (λ D n s₀ s. refl) (λ D r s₀ s. refl)
+        (enter_plays Sound (state_row rows next) here r next) (λ D n s₀ s. refl) (λ D r s₀ s. refl)
         (entering-plays (state_row rows next) here r.current_state F p)
         (λ i r d k k' k'' h m. omega arith)))
       where
@@ -269,8 +269,8 @@ module _ (Sound : Type 0) (rows transitions : List ℕ) (context : Context)
       (λ i k. omega arith)
   zero-plays (suc n) r F p = by-plays (λ D. zero_transition n (E D)) (zero-plays n) counter_zero r F p
 
-  pub transition-plays : (event : ℕ) → Transits event (λ D. transition (E D) event)
-  transition-plays event r F p = by-plays (λ D. zero_transition counter_num (E D)) (zero-plays counter_num) event r F p
+  pub transition_plays : (event : ℕ) → Transits event (λ D. transition (E D) event)
+  transition_plays event r F p = by-plays (λ D. zero_transition counter_num (E D)) (zero-plays counter_num) event r F p
 
   -- ---- the fall of the state limit, and a whole turn
   decrement-plays : (r : MachineRuntime) (F : Flags) (p : TriggerAction)
@@ -281,21 +281,21 @@ module _ (Sound : Type 0) (rows transitions : List ℕ) (context : Context)
       (eqb (r.state_limit - 1) 0 && has_limit (state_row rows r.current_state))
       (λ e. plays_weaken Sound stepped (λ i d. Attempt i limit_reached context.machine F d.flags) (λ i d. Took 1 0 F d.flags) _
       (λ i d k k' h. omega (arith, h))
-      (transition-plays limit_reached (with_state r r.current_state (r.state_limit - 1)) F no_action))
+      (transition_plays limit_reached (with_state r r.current_state (r.state_limit - 1)) F no_action))
       (λ e. plays_end Sound stepped _ _
       (record { runtime = with_state r r.current_state (r.state_limit - 1); flags = F; action = p; changed = false })
       (λ D s. refl) (λ i k. omega arith))
 
-  pub turn-plays : (kind : ℕ) (falls : Bool) (blocked : ℕ) (r : MachineRuntime) (F : Flags) (p : TriggerAction)
+  pub turn_plays : (kind : ℕ) (falls : Bool) (blocked : ℕ) (r : MachineRuntime) (F : Flags) (p : TriggerAction)
       → Plays Sound stepped (λ i d k k'. Ordinary (event_of kind) → Took (1 + one falls) 0 F d.flags k k')
       (λ D s. turn (E D) kind falls blocked r (shared F s) p)
   unfolding turn
-  turn-plays kind falls blocked r F p =
+  turn_plays kind falls blocked r F p =
       plays_then Sound stepped (λ i d. Attempt i (event_of kind) context.machine F d.flags) stepped
       (λ d i d'. Took (one falls) 0 d.flags d'.flags) _
       (λ D s. transition (E D) (event_of kind) (counted_by kind blocked r) (shared F s) p)
       (λ D. after_transition (E D) falls)
-      (transition-plays (event_of kind) (counted_by kind blocked r) F p) (λ D n s. refl) (after_turn falls)
+      (transition_plays (event_of kind) (counted_by kind blocked r) F p) (λ D n s. refl) (after_turn falls)
       (λ i d d' k k' k'' h m o. ordinary i d d' k k' k'' (eqb (event_of kind) counter_zero) (eqb (event_of kind) signal) o.0 o.1 h m)
     where
       ordinary : (i : ℕ) (d d' : Stepping) (k k' k'' : Counts) (y w : Bool) → y ≡ false → w ≡ false

@@ -19,9 +19,9 @@ use Rattle.steps.specs.Refusals.{tables_most, checks_most}
 use Rattle.steps.specs.Play.Laws.{Given}
 use Rattle.steps.specs.Words.{on_words, outside_refused, batch_on, BatchWords, batch_in_words, batch_words}
 use Rattle.steps.specs.Words.Sound.{sound}
-use Rattle.steps.specs.Words.Tapes.{used_up, batch_tapes, batch-on-tapes, batch-stops-16}
-use Rattle.steps.specs.Words.Taken.{batch-takes-most, batch-same-within}
-use Rattle.steps.specs.Words.Calls.{Ends, by-24, by-checks, by-16, accepts, ends, passes_outside, is_outside, not_outside, used-most, used-same}
+use Rattle.steps.specs.Words.Tapes.{used_up, batch_tapes, batch_on_tapes, batch_stops_16}
+use Rattle.steps.specs.Words.Taken.{batch_takes_most, batch_same_within}
+use Rattle.steps.specs.Words.Calls.{Ends, by-24, by-checks, by-16, accepts, ends, passes_outside, is_outside, not_outside, used_most, used_same}
 use Rattle.steps.specs.declared.AnswerWords.{AnswerWords}
 use Rattle.steps.specs.declared.Framework.{Framework}
 
@@ -99,7 +99,7 @@ module _ (fw : Framework) (T : Tables) (time : ℕ) (es ws out : List ℕ) where
       (λ o c.
       let passed = tables_pass fw T es out c in
       let s = sound T passed (not_outside (tables_answer T) T o passed) in
-      (batch-on-tapes T time es fw s ws, batch-stops-16 T time es fw s ws))
+      (batch_on_tapes T time es fw s ws, batch_stops_16 T time es fw s ws))
 
   -- what its answer says in each case
   number : {n : ℕ} → batch_on fw T time es (on_words ws) out ≡ refused fw out n → answer.refusal ≡ n
@@ -110,8 +110,8 @@ module _ (fw : Framework) (T : Tables) (time : ℕ) (es ws out : List ℕ) where
 
   -- (a) An accepted batch: the two-tape batch on the tapes worked out is accepted too, with the same framework, rows and output, and
   -- uses both tapes up.
-  pub batch-accepted : answer.refusal ≡ 0 → on_given ≡ accepted_on given (batch_words fw T time es ws out)
-  batch-accepted r = by ending
+  pub batch_accepted : answer.refusal ≡ 0 → on_given ≡ accepted_on given (batch_words fw T time es ws out)
+  batch_accepted r = by ending
     where
       by : Ending → on_given ≡ accepted_on given (batch_words fw T time es ws out)
       by (by-24 o e) = absurd (differs (λ z. omega (arith, z)) e r)
@@ -121,9 +121,9 @@ module _ (fw : Framework) (T : Tables) (time : ℕ) (es ws out : List ℕ) where
 
   -- (b) Where 24 is not given, 16 is given exactly if the two-tape batch gives 16 on the tapes worked out, and that leaves framework and
   -- output as they were.
-  pub batch-16 : (answer.refusal ≡ 24 → ⊥)
+  pub batch_16 : (answer.refusal ≡ 24 → ⊥)
       → (answer.refusal ≡ 16 → on_given ≡ refused fw out 16) × (on_given.answer.refusal ≡ 16 → answer.refusal ≡ 16)
-  batch-16 h = by ending
+  batch_16 h = by ending
     where
       by : Ending → (answer.refusal ≡ 16 → on_given ≡ refused fw out 16) × (on_given.answer.refusal ≡ 16 → answer.refusal ≡ 16)
       by (by-24 o e) = absurd (h (number e))
@@ -138,9 +138,9 @@ module _ (fw : Framework) (T : Tables) (time : ℕ) (es ws out : List ℕ) where
       )
 
   -- (c) Every refusal but 16 and 24 is the two-tape batch's, whatever its tapes.
-  pub batch-other : (answer.refusal ≡ 0 → ⊥) → (answer.refusal ≡ 16 → ⊥) → (answer.refusal ≡ 24 → ⊥)
+  pub batch_other : (answer.refusal ≡ 0 → ⊥) → (answer.refusal ≡ 16 → ⊥) → (answer.refusal ≡ 24 → ⊥)
       → (chances values : List Float) → batch fw T time es (tapes chances values) out ≡ refused fw out answer.refusal
-  batch-other z n m chances values = by ending
+  batch_other z n m chances values = by ending
     where
       by : Ending → batch fw T time es (tapes chances values) out ≡ refused fw out answer.refusal
       by (by-24 o e) = absurd (m (number e))
@@ -150,9 +150,9 @@ module _ (fw : Framework) (T : Tables) (time : ℕ) (es ws out : List ℕ) where
       by (accepts o c x e f) = absurd (z (ap refusal_of e))
 
   -- And where 24 is not given, what the checks of the two-tape batch refuse is refused with their number, and leaves framework and output.
-  pub batch-checked : (answer.refusal ≡ 24 → ⊥) → (batch_refusal fw T es out ≡ 0 → ⊥)
+  pub batch_checked : (answer.refusal ≡ 24 → ⊥) → (batch_refusal fw T es out ≡ 0 → ⊥)
       → batch_words fw T time es ws out ≡ refused_in_words fw out (batch_refusal fw T es out)
-  batch-checked h n = by ending
+  batch_checked h n = by ending
     where
       by : Ending → batch_words fw T time es ws out ≡ refused_in_words fw out (batch_refusal fw T es out)
       by (by-24 o e) = absurd (h (number e))
@@ -161,8 +161,8 @@ module _ (fw : Framework) (T : Tables) (time : ℕ) (es ws out : List ℕ) where
       by (accepts o c x e f) = absurd (n c)
 
   -- (d) 17 is never given.
-  pub batch-never-17 : answer.refusal ≡ 17 → ⊥
-  batch-never-17 r = by ending
+  pub batch_never_17 : answer.refusal ≡ 17 → ⊥
+  batch_never_17 r = by ending
     where
       by : Ending → ⊥
       by (by-24 o e) = differs (λ z. omega (arith, z)) e r
@@ -171,10 +171,10 @@ module _ (fw : Framework) (T : Tables) (time : ℕ) (es ws out : List ℕ) where
       by (accepts o c x e f) = let z = sym r ∙ ap refusal_of e in omega (arith, z)
 
   -- (e) 24 is given exactly where the tables pass their checks and draw outside.
-  pub batch-24 : (answer.refusal ≡ 24 → (tables_answer T ≡ 0) × (draws_outside T.machines T.states ≡ true))
+  pub batch_24 : (answer.refusal ≡ 24 → (tables_answer T ≡ 0) × (draws_outside T.machines T.states ≡ true))
       × (tables_answer T ≡ 0 → draws_outside T.machines T.states ≡ true → batch_words fw T time es ws out ≡ refused_in_words fw out 24)
   unfolding batch_on
-  batch-24 = ((λ r. by r ending), λ p d. rw (is_outside (tables_answer T) T p d))
+  batch_24 = ((λ r. by r ending), λ p d. rw (is_outside (tables_answer T) T p d))
     where
       by : answer.refusal ≡ 24 → Ending → (tables_answer T ≡ 0) × (draws_outside T.machines T.states ≡ true)
       by r (by-24 o e) = passes_outside (tables_answer T) T o
@@ -184,8 +184,8 @@ module _ (fw : Framework) (T : Tables) (time : ℕ) (es ws out : List ℕ) where
       by r (accepts o c x e f) = absurd (let z = sym r ∙ ap refusal_of e in omega (arith, z))
 
   -- A refused batch leaves the framework and the output as they were, and takes no words.
-  pub batch-refused : (answer.refusal ≡ 0 → ⊥) → batch_words fw T time es ws out ≡ refused_in_words fw out answer.refusal
-  batch-refused n = by ending
+  pub batch_refused : (answer.refusal ≡ 0 → ⊥) → batch_words fw T time es ws out ≡ refused_in_words fw out answer.refusal
+  batch_refused n = by ending
     where
       whole : {m : ℕ} → batch_on fw T time es (on_words ws) out ≡ refused fw out m
           → batch_words fw T time es ws out ≡ refused_in_words fw out answer.refusal
@@ -200,32 +200,32 @@ module _ (fw : Framework) (T : Tables) (time : ℕ) (es ws out : List ℕ) where
 -- ---- (f) The words that a batch reports.
 module _ (fw : Framework) (T : Tables) (time : ℕ) (es : List ℕ) where
   -- They are words of the tape.
-  pub batch-words-most : (ws out : List ℕ) → (batch_words fw T time es ws out).answer.words_used ≤ length ws
+  pub batch_words_most : (ws out : List ℕ) → (batch_words fw T time es ws out).answer.words_used ≤ length ws
   unfolding batch_on batch
-  batch-words-most ws out =
-      used-most (concluded fw out) refusal_of (λ b. b.answer.value_used) (λ n. refl) (λ n. refl) (λ x. refl)
-      (batch_refusal fw T es out) (outside_refused (tables_answer T) T) (length ws) (trigger_events T (words ws) time es fw) (batch-takes-most T time es fw ws)
+  batch_words_most ws out =
+      used_most (concluded fw out) refusal_of (λ b. b.answer.value_used) (λ n. refl) (λ n. refl) (λ x. refl)
+      (batch_refusal fw T es out) (outside_refused (tables_answer T) T) (length ws) (trigger_events T (words ws) time es fw) (batch_takes_most T time es fw ws)
 
   -- Those after them do not matter: an accepted batch that reports no more words than `pre` has is the same whatever follows `pre`.
-  pub batch-words-suffice : (pre post post' out : List ℕ) → (batch_words fw T time es (pre ++ post) out).answer.refusal ≡ 0
+  pub batch_words_suffice : (pre post post' out : List ℕ) → (batch_words fw T time es (pre ++ post) out).answer.refusal ≡ 0
       → (batch_words fw T time es (pre ++ post) out).answer.words_used ≤ length pre
       → batch_words fw T time es (pre ++ post') out ≡ batch_words fw T time es (pre ++ post) out
   unfolding batch_on batch
-  batch-words-suffice pre post post' out r u =
-      ap batch_in_words (used-same (concluded fw out) refusal_of (λ b. b.answer.value_used) (λ n. refl) (λ n. refl) (λ x. refl)
+  batch_words_suffice pre post post' out r u =
+      ap batch_in_words (used_same (concluded fw out) refusal_of (λ b. b.answer.value_used) (λ n. refl) (λ n. refl) (λ x. refl)
       (batch_refusal fw T es out) (outside_refused (tables_answer T) T) (length pre)
       (trigger_events T (words (pre ++ post)) time es fw) (trigger_events T (words (pre ++ post')) time es fw)
       (λ o c.
       let passed = tables_pass fw T es out c in
-      batch-stops-16 T time es fw (sound T passed (not_outside (tables_answer T) T o passed)) (pre ++ post))
-      (batch-same-within T time es fw pre post post') r u)
+      batch_stops_16 T time es fw (sound T passed (not_outside (tables_answer T) T o passed)) (pre ++ post))
+      (batch_same_within T time es fw pre post post') r u)
 
   -- None of them can be spared: on fewer the batch is refused as 16.
-  pub batch-words-needed : (pre post out : List ℕ) → (batch_words fw T time es (pre ++ post) out).answer.refusal ≡ 0
+  pub batch_words_needed : (pre post out : List ℕ) → (batch_words fw T time es (pre ++ post) out).answer.refusal ≡ 0
       → length pre < (batch_words fw T time es (pre ++ post) out).answer.words_used
       → batch_words fw T time es pre out ≡ refused_in_words fw out 16
-  batch-words-needed pre post out r u =
-      batch-refused fw T time es pre out not-0 ∙ ap (refused_in_words fw out) is-16
+  batch_words_needed pre post out r u =
+      batch_refused fw T time es pre out not-0 ∙ ap (refused_in_words fw out) is-16
     where
       n : ℕ
       n = (batch_words fw T time es pre out).answer.refusal
@@ -233,19 +233,19 @@ module _ (fw : Framework) (T : Tables) (time : ℕ) (es : List ℕ) where
       -- accepted on `pre` alone it would be the same with `post` after it
       same : n ≡ 0 → batch_words fw T time es (pre ++ post) out ≡ batch_words fw T time es pre out
       same z =
-          batch-words-suffice pre [] post out (rw (append-nil pre) z) (rw (append-nil pre) (batch-words-most pre out))
+          batch_words_suffice pre [] post out (rw (append-nil pre) z) (rw (append-nil pre) (batch_words_most pre out))
           ∙ ap (λ (l : List ℕ). batch_words fw T time es l out) (append-nil pre)
 
       not-0 : n ≡ 0 → ⊥
       not-0 z =
-          let most = batch-words-most pre out in
+          let most = batch_words_most pre out in
           let e = ap (λ (b : BatchWords). b.answer.words_used) (same z) in
           omega (arith, most, e, u)
 
       not-24 : n ≡ 24 → ⊥
       not-24 z =
-          let outside = (batch-24 fw T time es pre out).0 z in
-          let e = sym r ∙ ap (λ (b : BatchWords). b.answer.refusal) ((batch-24 fw T time es (pre ++ post) out).1 outside.0 outside.1) in
+          let outside = (batch_24 fw T time es pre out).0 z in
+          let e = sym r ∙ ap (λ (b : BatchWords). b.answer.refusal) ((batch_24 fw T time es (pre ++ post) out).1 outside.0 outside.1) in
           omega (arith, e)
 
       is-16 : n ≡ 16
@@ -253,7 +253,7 @@ module _ (fw : Framework) (T : Tables) (time : ℕ) (es : List ℕ) where
         | yes e ↦ e
         | no e ↦
             (let g = batch_tapes T time es fw (pre ++ post) in
-            let a = batch-accepted fw T time es (pre ++ post) out r in
-            let b = batch-other fw T time es pre out not-0 e not-24 g.chances g.values in
+            let a = batch_accepted fw T time es (pre ++ post) out r in
+            let b = batch_other fw T time es pre out not-0 e not-24 g.chances g.values in
             absurd (not-0 (ap refusal_of (sym b ∙ a))))
       ]

@@ -65,8 +65,8 @@ words_call conclude checks outside o =
 module _ {X : Type 0} (conclude : Outcome → X) (refusal used : X → ℕ) (refuses : (n : ℕ) → refusal (conclude (stop n)) ≡ n)
     (idle : (n : ℕ) → used (conclude (stop n)) ≡ 0) (takes : (x : Run) → used (conclude (go x)) ≡ taken x) (checks : ℕ) (outside : Bool) where
   -- no more than its run takes
-  pub used-most : (n : ℕ) (o : Outcome) → TakesMost n o → used (words_call conclude checks outside o) ≤ n
-  used-most n o h = by outside (eqb checks 0) o h
+  pub used_most : (n : ℕ) (o : Outcome) → TakesMost n o → used (words_call conclude checks outside o) ≤ n
+  used_most n o h = by outside (eqb checks 0) o h
     where
       none : (k : ℕ) → used (conclude (stop k)) ≤ n
       none k = let e = idle k in omega (arith, e)
@@ -79,10 +79,10 @@ module _ {X : Type 0} (conclude : Outcome → X) (refusal used : X → ℕ) (ref
       by false false o h = none checks
 
   -- accepted after at most n words, it is the same on a run that is the same within n
-  pub used-same : (n : ℕ) (o o' : Outcome) → (outside ≡ false → checks ≡ 0 → Stops16 o) → SameWithin n o o'
+  pub used_same : (n : ℕ) (o o' : Outcome) → (outside ≡ false → checks ≡ 0 → Stops16 o) → SameWithin n o o'
       → refusal (words_call conclude checks outside o) ≡ 0 → used (words_call conclude checks outside o) ≤ n
       → words_call conclude checks outside o' ≡ words_call conclude checks outside o
-  used-same n o o' stops h = by outside (λ e. e) (eqb checks 0) (eqb-true checks 0) o stops h
+  used_same n o o' stops h = by outside (λ e. e) (eqb checks 0) (eqb-true checks 0) o stops h
     where
       by : (a : Bool) → (a ≡ false → outside ≡ false) → (b : Bool) → (b ≡ true → checks ≡ 0) → (o : Outcome)
           → (outside ≡ false → checks ≡ 0 → Stops16 o) → SameWithin n o o'

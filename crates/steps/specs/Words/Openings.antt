@@ -20,9 +20,9 @@ use Rattle.steps.specs.Refusals.{tables_most}
 use Rattle.steps.specs.Play.Laws.{Given}
 use Rattle.steps.specs.Words.{on_words, outside_refused, opening_on, opened_in_words, opening_words}
 use Rattle.steps.specs.Words.Sound.{sound}
-use Rattle.steps.specs.Words.Tapes.{used_up, opening_tapes, opening-on-tapes, opening-stops-16}
-use Rattle.steps.specs.Words.Taken.{opening-takes-most, opening-same-within}
-use Rattle.steps.specs.Words.Calls.{Ends, by-24, by-checks, by-16, accepts, ends, passes_outside, is_outside, not_outside, used-most, used-same}
+use Rattle.steps.specs.Words.Tapes.{used_up, opening_tapes, opening_on_tapes, opening_stops_16}
+use Rattle.steps.specs.Words.Taken.{opening_takes_most, opening_same_within}
+use Rattle.steps.specs.Words.Calls.{Ends, by-24, by-checks, by-16, accepts, ends, passes_outside, is_outside, not_outside, used_most, used_same}
 use Rattle.steps.specs.declared.Opened.{Opened}
 use Rattle.steps.specs.declared.OpenedWords.{OpenedWords}
 
@@ -90,7 +90,7 @@ module _ (T : Tables) (padding blocking : Float) (time : ℕ) (ws : List ℕ) wh
       (open_run T padding blocking time (tapes given.chances given.values))
       (λ o c.
       let s = sound T (none_of _ _ c).1 (not_outside checks T o c) in
-      (opening-on-tapes T padding blocking time s ws, opening-stops-16 T padding blocking time s ws))
+      (opening_on_tapes T padding blocking time s ws, opening_stops_16 T padding blocking time s ws))
 
   -- what its answer says in each case
   number : {n : ℕ} → opening_on T padding blocking time (on_words ws) ≡ opened_by (stop n) → answer.refusal ≡ n
@@ -100,8 +100,8 @@ module _ (T : Tables) (padding blocking : Float) (time : ℕ) (ws : List ℕ) wh
   differs h e r = h (sym (number e) ∙ r)
 
   -- (a) An accepted opening: the two-tape opening on the tapes worked out is accepted too, with the same framework, and uses both tapes up.
-  pub opening-accepted : answer.refusal ≡ 0 → on_given ≡ accepted_on given answer
-  opening-accepted r = by ending
+  pub opening_accepted : answer.refusal ≡ 0 → on_given ≡ accepted_on given answer
+  opening_accepted r = by ending
     where
       by : Ending → on_given ≡ accepted_on given answer
       by (by-24 o e) = absurd (differs (λ z. omega (arith, z)) e r)
@@ -110,9 +110,9 @@ module _ (T : Tables) (padding blocking : Float) (time : ℕ) (ws : List ℕ) wh
       by (accepts o c x e f) = rw (e, f)
 
   -- (b) Where 24 is not given, 16 is given exactly if the two-tape opening gives 16 on the tapes worked out.
-  pub opening-16 : (answer.refusal ≡ 24 → ⊥)
+  pub opening_16 : (answer.refusal ≡ 24 → ⊥)
       → (answer.refusal ≡ 16 → on_given ≡ opened_by (stop 16)) × (on_given.refusal ≡ 16 → answer.refusal ≡ 16)
-  opening-16 h = by ending
+  opening_16 h = by ending
     where
       by : Ending → (answer.refusal ≡ 16 → on_given ≡ opened_by (stop 16)) × (on_given.refusal ≡ 16 → answer.refusal ≡ 16)
       by (by-24 o e) = absurd (h (number e))
@@ -127,9 +127,9 @@ module _ (T : Tables) (padding blocking : Float) (time : ℕ) (ws : List ℕ) wh
       )
 
   -- (c) Every refusal but 16 and 24 is the two-tape opening's, whatever its tapes.
-  pub opening-other : (answer.refusal ≡ 0 → ⊥) → (answer.refusal ≡ 16 → ⊥) → (answer.refusal ≡ 24 → ⊥)
+  pub opening_other : (answer.refusal ≡ 0 → ⊥) → (answer.refusal ≡ 16 → ⊥) → (answer.refusal ≡ 24 → ⊥)
       → (chances values : List Float) → opening T padding blocking time (tapes chances values) ≡ opened_by (stop answer.refusal)
-  opening-other z n m chances values = by ending
+  opening_other z n m chances values = by ending
     where
       by : Ending → opening T padding blocking time (tapes chances values) ≡ opened_by (stop answer.refusal)
       by (by-24 o e) = absurd (m (number e))
@@ -139,8 +139,8 @@ module _ (T : Tables) (padding blocking : Float) (time : ℕ) (ws : List ℕ) wh
       by (accepts o c x e f) = absurd (z (ap refusal_of e))
 
   -- And what the checks of the two-tape opening refuse is refused with their number: 24 comes after all of them.
-  pub opening-checked : (checks ≡ 0 → ⊥) → answer ≡ refused_in_words checks
-  opening-checked n = by ending
+  pub opening_checked : (checks ≡ 0 → ⊥) → answer ≡ refused_in_words checks
+  opening_checked n = by ending
     where
       by : Ending → answer ≡ refused_in_words checks
       by (by-24 o e) = absurd (n (passes_outside checks T o).0)
@@ -149,8 +149,8 @@ module _ (T : Tables) (padding blocking : Float) (time : ℕ) (ws : List ℕ) wh
       by (accepts o c x e f) = absurd (n c)
 
   -- (d) 17 is never given.
-  pub opening-never-17 : answer.refusal ≡ 17 → ⊥
-  opening-never-17 r = by ending
+  pub opening_never_17 : answer.refusal ≡ 17 → ⊥
+  opening_never_17 r = by ending
     where
       by : Ending → ⊥
       by (by-24 o e) = differs (λ z. omega (arith, z)) e r
@@ -162,10 +162,10 @@ module _ (T : Tables) (padding blocking : Float) (time : ℕ) (ws : List ℕ) wh
       by (accepts o c x e f) = let z = sym r ∙ ap refusal_of e in omega (arith, z)
 
   -- (e) 24 is given exactly where all checks pass and the tables draw outside.
-  pub opening-24 : (answer.refusal ≡ 24 → (checks ≡ 0) × (draws_outside T.machines T.states ≡ true))
+  pub opening_24 : (answer.refusal ≡ 24 → (checks ≡ 0) × (draws_outside T.machines T.states ≡ true))
       × (checks ≡ 0 → draws_outside T.machines T.states ≡ true → answer ≡ refused_in_words 24)
   unfolding opening_on
-  opening-24 = ((λ r. by r ending), λ p d. rw (is_outside checks T p d))
+  opening_24 = ((λ r. by r ending), λ p d. rw (is_outside checks T p d))
     where
       by : answer.refusal ≡ 24 → Ending → (checks ≡ 0) × (draws_outside T.machines T.states ≡ true)
       by r (by-24 o e) = passes_outside checks T o
@@ -175,8 +175,8 @@ module _ (T : Tables) (padding blocking : Float) (time : ℕ) (ws : List ℕ) wh
       by r (accepts o c x e f) = absurd (let z = sym r ∙ ap refusal_of e in omega (arith, z))
 
   -- A refused opening gives a framework with no machines, and takes no words.
-  pub opening-refused : (answer.refusal ≡ 0 → ⊥) → answer ≡ refused_in_words answer.refusal
-  opening-refused n = by ending
+  pub opening_refused : (answer.refusal ≡ 0 → ⊥) → answer ≡ refused_in_words answer.refusal
+  opening_refused n = by ending
     where
       whole : {m : ℕ} → opening_on T padding blocking time (on_words ws) ≡ opened_by (stop m) → answer ≡ refused_in_words answer.refusal
       whole e = ap opened_in_words e ∙ ap refused_in_words (sym (number e))
@@ -190,32 +190,32 @@ module _ (T : Tables) (padding blocking : Float) (time : ℕ) (ws : List ℕ) wh
 -- ---- (f) The words that an opening reports.
 module _ (T : Tables) (padding blocking : Float) (time : ℕ) where
   -- They are words of the tape.
-  pub opening-words-most : (ws : List ℕ) → (opening_words T padding blocking time ws).words_used ≤ length ws
+  pub opening_words_most : (ws : List ℕ) → (opening_words T padding blocking time ws).words_used ≤ length ws
   unfolding opening_on opening
-  opening-words-most ws =
-      used-most opened_by refusal_of (λ o. o.value_used) (λ n. refl) (λ n. refl) (λ x. refl) (open_refusal T padding blocking)
+  opening_words_most ws =
+      used_most opened_by refusal_of (λ o. o.value_used) (λ n. refl) (λ n. refl) (λ x. refl) (open_refusal T padding blocking)
       (outside_refused (open_refusal T padding blocking) T) (length ws) (open_run T padding blocking time (words ws))
-      (opening-takes-most T padding blocking time ws)
+      (opening_takes_most T padding blocking time ws)
 
   -- Those after them do not matter: an accepted opening that reports no more words than `pre` has is the same whatever follows `pre`.
-  pub opening-words-suffice : (pre post post' : List ℕ) → (opening_words T padding blocking time (pre ++ post)).refusal ≡ 0
+  pub opening_words_suffice : (pre post post' : List ℕ) → (opening_words T padding blocking time (pre ++ post)).refusal ≡ 0
       → (opening_words T padding blocking time (pre ++ post)).words_used ≤ length pre
       → opening_words T padding blocking time (pre ++ post') ≡ opening_words T padding blocking time (pre ++ post)
   unfolding opening_on opening
-  opening-words-suffice pre post post' r u =
-      ap opened_in_words (used-same opened_by refusal_of (λ o. o.value_used) (λ n. refl) (λ n. refl) (λ x. refl)
+  opening_words_suffice pre post post' r u =
+      ap opened_in_words (used_same opened_by refusal_of (λ o. o.value_used) (λ n. refl) (λ n. refl) (λ x. refl)
       (open_refusal T padding blocking) (outside_refused (open_refusal T padding blocking) T) (length pre)
       (open_run T padding blocking time (words (pre ++ post))) (open_run T padding blocking time (words (pre ++ post')))
-      (λ o c. opening-stops-16 T padding blocking time
+      (λ o c. opening_stops_16 T padding blocking time
       (sound T (none_of _ _ c).1 (not_outside (open_refusal T padding blocking) T o c)) (pre ++ post))
-      (opening-same-within T padding blocking time pre post post') r u)
+      (opening_same_within T padding blocking time pre post post') r u)
 
   -- None of them can be spared: on fewer the opening is refused as 16.
-  pub opening-words-needed : (pre post : List ℕ) → (opening_words T padding blocking time (pre ++ post)).refusal ≡ 0
+  pub opening_words_needed : (pre post : List ℕ) → (opening_words T padding blocking time (pre ++ post)).refusal ≡ 0
       → length pre < (opening_words T padding blocking time (pre ++ post)).words_used
       → opening_words T padding blocking time pre ≡ refused_in_words 16
-  opening-words-needed pre post r u =
-      opening-refused T padding blocking time pre not-0 ∙ ap refused_in_words is-16
+  opening_words_needed pre post r u =
+      opening_refused T padding blocking time pre not-0 ∙ ap refused_in_words is-16
     where
       n : ℕ
       n = (opening_words T padding blocking time pre).refusal
@@ -223,19 +223,19 @@ module _ (T : Tables) (padding blocking : Float) (time : ℕ) where
       -- accepted on `pre` alone it would be the same with `post` after it
       same : n ≡ 0 → opening_words T padding blocking time (pre ++ post) ≡ opening_words T padding blocking time pre
       same z =
-          opening-words-suffice pre [] post (rw (append-nil pre) z) (rw (append-nil pre) (opening-words-most pre))
+          opening_words_suffice pre [] post (rw (append-nil pre) z) (rw (append-nil pre) (opening_words_most pre))
           ∙ ap (λ (l : List ℕ). opening_words T padding blocking time l) (append-nil pre)
 
       not-0 : n ≡ 0 → ⊥
       not-0 z =
-          let most = opening-words-most pre in
+          let most = opening_words_most pre in
           let e = ap (λ (o : OpenedWords). o.words_used) (same z) in
           omega (arith, most, e, u)
 
       not-24 : n ≡ 24 → ⊥
       not-24 z =
-          let outside = (opening-24 T padding blocking time pre).0 z in
-          let e = sym r ∙ ap (λ (o : OpenedWords). o.refusal) ((opening-24 T padding blocking time (pre ++ post)).1 outside.0 outside.1) in
+          let outside = (opening_24 T padding blocking time pre).0 z in
+          let e = sym r ∙ ap (λ (o : OpenedWords). o.refusal) ((opening_24 T padding blocking time (pre ++ post)).1 outside.0 outside.1) in
           omega (arith, e)
 
       is-16 : n ≡ 16
@@ -243,7 +243,7 @@ module _ (T : Tables) (padding blocking : Float) (time : ℕ) where
         | yes e ↦ e
         | no e ↦
             (let g = opening_tapes T padding blocking time (pre ++ post) in
-            let a = opening-accepted T padding blocking time (pre ++ post) r in
-            let b = opening-other T padding blocking time pre not-0 e not-24 g.chances g.values in
+            let a = opening_accepted T padding blocking time (pre ++ post) r in
+            let b = opening_other T padding blocking time pre not-0 e not-24 g.chances g.values in
             absurd (not-0 (ap refusal_of (sym b ∙ a))))
       ]

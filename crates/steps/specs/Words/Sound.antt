@@ -18,12 +18,12 @@ use Rattle.dists.specs.declared.DistType.TheVariants.{Absent, Uniform, Outside}
 use Rattle.outside.specs.Outside.{drawn_outside, draws_outside}
 use Rattle.outside.specs.Outside.Laws.{Inside, inside, outside_false}
 use Rattle.tables.specs.Valid.{ValidDist, KnownCounter, ValidCounter, ValidState}
-use Rattle.tables.specs.Valid.Laws.{zero-valid}
+use Rattle.tables.specs.Valid.Laws.{zero_valid}
 use Rattle.tables.specs.Valid.Tests.{or_some}
 use Rattle.steps.specs.Events.{Tables, machine_word, states_of}
 use Rattle.steps.specs.Framework.{rows_in}
 use Rattle.steps.specs.Play.{TypeServed, RowServed}
-use Rattle.steps.specs.Targets.{Passed, states_in, word, valid-state}
+use Rattle.steps.specs.Targets.{Passed, states_in, word, valid_state}
 
 -- whatever the machine and the state
 abbrev pub Sound : Tables → Type 0
@@ -74,8 +74,8 @@ checked_served ts n row v i = record {
   timeout = λ u. timed (one_of (action_of row) send_padding block_outgoing u) (i.timeout u);
   duration = λ u. lasting (one_of (action_of row) block_outgoing update_timer u) (i.duration u);
   limit = λ u. limited (may_limit row) refl (not (eqb (get_or row limit 0) 0)) u;
-  counter-a = counter_served row counter_a v.codes.a v.dists.a i.a;
-  counter-b = counter_served row counter_b v.codes.b v.dists.b i.b;
+  counter_a_lem = counter_served row counter_a v.codes.a v.dists.a i.a;
+  counter_b_lem = counter_served row counter_b v.codes.b v.dists.b i.b;
 }
   where
     timed : (action_of row ≡ send_padding) ⊎ (action_of row ≡ block_outgoing) → drawn_outside row timeout ≡ false
@@ -125,8 +125,8 @@ nothing_served = record {
   timeout = λ u. absurd (true≢false (sym u));
   duration = λ u. absurd (true≢false (sym u));
   limit = λ u. absurd (true≢false (sym u));
-  counter-a = λ u. absurd (true≢false u);
-  counter-b = λ u. absurd (true≢false u);
+  counter_a_lem = λ u. absurd (true≢false u);
+  counter_b_lem = λ u. absurd (true≢false u);
 }
 
 beyond : (rows : List ℕ) (state : ℕ) → length rows ≤ state * state_words → RowServed (state_row rows state)
@@ -135,9 +135,9 @@ beyond rows state h = rw (drop_of_length-le rows {i = state * state_words} h, ta
 
 -- ---- THEOREM: such tables ask for nothing that words cannot serve.
 module _ (T : Tables) (passed : Passed T) (served : draws_outside T.machines T.states ≡ false) where
-  rows-most : (i : ℕ) → length (states_of T i) ≤ states_in T i * state_words
+  rows_most : (i : ℕ) → length (states_of T i) ≤ states_in T i * state_words
   unfolding rows_of
-  rows-most i =
+  rows_most i =
       most (length (drop (machine_word T.machines i first_state * state_words) T.states))
       (length-take (states_in T i * state_words) (drop (machine_word T.machines i first_state * state_words) T.states))
     where
@@ -149,7 +149,7 @@ module _ (T : Tables) (passed : Passed T) (served : draws_outside T.machines T.s
     rows_all : length (states_of T i) / state_words ≡ states_in T i
     unfolding rows_of
     rows_all =
-        let within = ((zero-valid T.machines T.states T.transitions passed).each i h).place.within in
+        let within = ((zero_valid T.machines T.states T.transitions passed).each i h).place.within in
         all (word T passed i h first_state (lit< tt)) (word T passed i h num_states (lit< tt)) within
         (length-take (states_in T i * state_words) (drop (machine_word T.machines i first_state * state_words) T.states))
         (length-drop (machine_word T.machines i first_state * state_words) T.states)
@@ -161,18 +161,18 @@ module _ (T : Tables) (passed : Passed T) (served : draws_outside T.machines T.s
     in-machine : (state : ℕ) → RowServed (state_row (states_of T i) state)
     in-machine state = elim (dec_lt state (states_in T i)) [
       | yes l ↦
-          checked_served T.transitions (states_in T i) (state_row (states_of T i) state) (valid-state T passed i h state l)
+          checked_served T.transitions (states_in T i) (state_row (states_of T i) state) (valid_state T passed i h state l)
           (inside (state_row (states_of T i) state)
           (outside_false T.machines T.states served i h state (subst (λ (n : ℕ). state < n) (sym rows_all) l)))
-      | no l ↦ beyond (states_of T i) state (let m = rows-most i in omega arith)
+      | no l ↦ beyond (states_of T i) state (let m = rows_most i in omega arith)
     ]
 
   -- one that they do not have has no states
   no-machine : (i : ℕ) → rows_in T.machines ≤ i → (state : ℕ) → RowServed (state_row (states_of T i) state)
   no-machine i h state =
       beyond (states_of T i) state
-      (let m = rows-most i in
-      let whole = (zero-valid T.machines T.states T.transitions passed).whole.machine-rows in
+      (let m = rows_most i in
+      let whole = (zero_valid T.machines T.states T.transitions passed).whole.machine_rows_lem in
       let none : states_in T i ≡ 0 = get_or-eq_default T.machines 0 (past (length T.machines) h whole) in
       none_left m none)
     where

@@ -15,7 +15,7 @@ use Rattle.steps.specs.Runs.{Ok}
 use Rattle.steps.specs.Play.{Play, ends, attempts, ask_chance, ask_uniform, ask_outside, after, run, Counts, Plays}
 use Rattle.steps.specs.Play.Runs.{Running, outcome}
 use Rattle.steps.specs.Words.Sound.{Sound}
-use Rattle.steps.specs.Words.Tapes.{front, BatchCost, triggers_by, batch-play, OpeningCost, opens_by, opening-play}
+use Rattle.steps.specs.Words.Tapes.{front, BatchCost, triggers_by, batch_play, OpeningCost, opens_by, opening_play}
 use Rattle.steps.specs.declared.Framework.{Framework}
 
 -- ---- an answer leaves the position between v and m
@@ -201,22 +201,22 @@ module _ (S : Type 0) (Post : ℕ → Running → Counts → Counts → Type 0) 
 
 -- a batch
 module _ (T : Tables) (time : ℕ) (es : List ℕ) (fw : Framework) where
-  pub batch-takes-most : (ws : List ℕ) → TakesMost (length ws) (trigger_events T (words ws) time es fw)
+  pub batch_takes_most : (ws : List ℕ) → TakesMost (length ws) (trigger_events T (words ws) time es fw)
   unfolding trigger_events
-  batch-takes-most = takes-most (Sound T) (BatchCost T time es fw) (triggers_by T time es fw) (batch-play T time es fw)
+  batch_takes_most = takes-most (Sound T) (BatchCost T time es fw) (triggers_by T time es fw) (batch_play T time es fw)
 
-  pub batch-same-within : (pre post post' : List ℕ)
+  pub batch_same_within : (pre post post' : List ℕ)
       → SameWithin (length pre) (trigger_events T (words (pre ++ post)) time es fw) (trigger_events T (words (pre ++ post')) time es fw)
   unfolding trigger_events
-  batch-same-within = same-within (Sound T) (BatchCost T time es fw) (triggers_by T time es fw) (batch-play T time es fw)
+  batch_same_within = same-within (Sound T) (BatchCost T time es fw) (triggers_by T time es fw) (batch_play T time es fw)
 
 -- an opening
 module _ (T : Tables) (padding blocking : Float) (time : ℕ) where
-  pub opening-takes-most : (ws : List ℕ) → TakesMost (length ws) (open_run T padding blocking time (words ws))
-  opening-takes-most =
-      takes-most (Sound T) (OpeningCost T padding blocking time) (opens_by T padding blocking time) (opening-play T padding blocking time)
+  pub opening_takes_most : (ws : List ℕ) → TakesMost (length ws) (open_run T padding blocking time (words ws))
+  opening_takes_most =
+      takes-most (Sound T) (OpeningCost T padding blocking time) (opens_by T padding blocking time) (opening_play T padding blocking time)
 
-  pub opening-same-within : (pre post post' : List ℕ)
+  pub opening_same_within : (pre post post' : List ℕ)
       → SameWithin (length pre) (open_run T padding blocking time (words (pre ++ post))) (open_run T padding blocking time (words (pre ++ post')))
-  opening-same-within =
-      same-within (Sound T) (OpeningCost T padding blocking time) (opens_by T padding blocking time) (opening-play T padding blocking time)
+  opening_same_within =
+      same-within (Sound T) (OpeningCost T padding blocking time) (opens_by T padding blocking time) (opening_play T padding blocking time)

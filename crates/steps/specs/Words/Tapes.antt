@@ -11,8 +11,8 @@ use Rattle.steps.specs.Events.{Tables, Outcome, stop, go, and_then, each, num_ma
 use Rattle.steps.specs.Framework.{none_zeroed, no_actions, new_framework, open_turn, rows_in, open_run, kinds_fit, trigger_events}
 use Rattle.steps.specs.Runs.{Ok}
 use Rattle.steps.specs.Play.{Counts, run, Plays}
-use Rattle.steps.specs.Play.Runs.{Running, run_of, outcome, beginning, Costs, batch-plays, open-plays}
-use Rattle.steps.specs.Play.Laws.{Given, worked_out, Honest, retold, follows, Only16, only-16}
+use Rattle.steps.specs.Play.Runs.{Running, run_of, outcome, beginning, Costs, batch_plays, open_plays}
+use Rattle.steps.specs.Play.Laws.{Given, worked_out, Honest, retold, follows, Only16, only_16}
 use Rattle.steps.specs.Words.Honest.{words_honest}
 use Rattle.steps.specs.Words.Sound.{Sound}
 use Rattle.steps.specs.declared.Framework.{Framework}
@@ -52,7 +52,7 @@ module _ (S : Type 0) (Post : ℕ → Running → Counts → Counts → Type 0) 
       by (got x s) p c v a b = rw (a, b)
 
   stops-16 : Stops16 (f D front)
-  stops-16 = rw (P.same D front) (by (run D P.play front) (only-16 D honest P.play (P.served sound) front))
+  stops-16 = rw (P.same D front) (by (run D P.play front) (only_16 D honest P.play (P.served sound) front))
     where
       by : (d : Drawn Place Running) → Only16 d → Stops16 (outcome d)
       by (no n s) h = h
@@ -68,21 +68,21 @@ module _ (T : Tables) (time : ℕ) (es : List ℕ) (fw : Framework) where
   abbrev pub triggers_by : Source Place → Place → Outcome
   triggers_by D s = and_then (each (event_turn T D es) (length es / 2) 0 (run_of (beginning fw time) s)) (signals T D)
 
-  pub batch-play : Plays (Sound T) outcome BatchCost triggers_by
-  batch-play = batch-plays (Sound T) (num_machines fw) T (λ s. s) es (beginning fw time)
+  pub batch_play : Plays (Sound T) outcome BatchCost triggers_by
+  batch_play = batch_plays (Sound T) (num_machines fw) T (λ s. s) es (beginning fw time)
 
   abbrev pub batch_tapes : List ℕ → Given
-  batch_tapes ws = worked_out (words ws) batch-play.play front
+  batch_tapes ws = worked_out (words ws) batch_play.play front
 
-  pub batch-on-tapes : Sound T → (ws : List ℕ)
+  pub batch_on_tapes : Sound T → (ws : List ℕ)
       → trigger_events T (tapes (batch_tapes ws).chances (batch_tapes ws).values) time es fw
       ≡ at_place (trigger_events T (words ws) time es fw) (used_up (batch_tapes ws))
   unfolding trigger_events
-  batch-on-tapes sound ws = on-tapes (Sound T) BatchCost triggers_by batch-play sound (words ws) (words_honest ws)
+  batch_on_tapes sound ws = on-tapes (Sound T) BatchCost triggers_by batch_play sound (words ws) (words_honest ws)
 
-  pub batch-stops-16 : Sound T → (ws : List ℕ) → Stops16 (trigger_events T (words ws) time es fw)
+  pub batch_stops_16 : Sound T → (ws : List ℕ) → Stops16 (trigger_events T (words ws) time es fw)
   unfolding trigger_events
-  batch-stops-16 sound ws = stops-16 (Sound T) BatchCost triggers_by batch-play sound (words ws) (words_honest ws)
+  batch_stops_16 sound ws = stops-16 (Sound T) BatchCost triggers_by batch_play sound (words ws) (words_honest ws)
 
 -- ---- an opening
 module _ (T : Tables) (padding blocking : Float) (time : ℕ) where
@@ -99,16 +99,16 @@ module _ (T : Tables) (padding blocking : Float) (time : ℕ) where
   abbrev pub opens_by : Source Place → Place → Outcome
   opens_by D s = each (open_turn T D) (rows_in T.machines) 0 (run_of first s)
 
-  pub opening-play : Plays (Sound T) outcome OpeningCost opens_by
-  opening-play = open-plays (Sound T) T (λ s. s) (rows_in T.machines) 0 first
+  pub opening_play : Plays (Sound T) outcome OpeningCost opens_by
+  opening_play = open_plays (Sound T) T (λ s. s) (rows_in T.machines) 0 first
 
   abbrev pub opening_tapes : List ℕ → Given
-  opening_tapes ws = worked_out (words ws) opening-play.play front
+  opening_tapes ws = worked_out (words ws) opening_play.play front
 
-  pub opening-on-tapes : Sound T → (ws : List ℕ)
+  pub opening_on_tapes : Sound T → (ws : List ℕ)
       → open_run T padding blocking time (tapes (opening_tapes ws).chances (opening_tapes ws).values)
       ≡ at_place (open_run T padding blocking time (words ws)) (used_up (opening_tapes ws))
-  opening-on-tapes sound ws = on-tapes (Sound T) OpeningCost opens_by opening-play sound (words ws) (words_honest ws)
+  opening_on_tapes sound ws = on-tapes (Sound T) OpeningCost opens_by opening_play sound (words ws) (words_honest ws)
 
-  pub opening-stops-16 : Sound T → (ws : List ℕ) → Stops16 (open_run T padding blocking time (words ws))
-  opening-stops-16 sound ws = stops-16 (Sound T) OpeningCost opens_by opening-play sound (words ws) (words_honest ws)
+  pub opening_stops_16 : Sound T → (ws : List ℕ) → Stops16 (open_run T padding blocking time (words ws))
+  opening_stops_16 sound ws = stops-16 (Sound T) OpeningCost opens_by opening_play sound (words ws) (words_honest ws)

@@ -6,7 +6,7 @@ use mathlib.Core.Bool.{true, false}
 use Rattle.stream.specs.declared.Layout.{Layout}
 use Rattle.stream.specs.Stream.{narrow}
 use Rattle.stream.specs.Inside.{in_order}
-use Rattle.stream.proofs.Clip.{exact, ends, wrong-end, right_end}
+use Rattle.stream.proofs.Clip.{exact, ends, wrong_end, right_end}
 use borrow.Author.Rules.{rules}
 use Rattle.stream.proofs.check.Statement.{statement}
 use Rattle.stream.proofs.check.Tie as tie
@@ -22,7 +22,7 @@ returns c =
     let ws = c.before.before.before.before.args.words.now in
     let n = c.before.calls-end in
     let t = c.if1.true in
-    wrong-end ws n.result n.ensures (λ e. omega (arith, t, e))
+    wrong_end ws n.result n.ensures (λ e. omega (arith, t, e))
 
 between-requires : tie.Need-between-requires
 between-requires c κs =

@@ -2,7 +2,7 @@
 use native.Mathlib.Omega.{arith}
 use mathlib.Core.Path.{sym, ◌∙◌}
 use lib.ListN.{length-take}
-use Rattle.stream.proofs.Input.{size_fits, size-refused, size-taken}
+use Rattle.stream.proofs.Input.{size_fits, size_refused, size_taken}
 use borrow.Author.Rules.{rules}
 use Rattle.stream.proofs.load.Statement.{statement}
 use Rattle.stream.proofs.load.Tie as tie
@@ -14,7 +14,7 @@ returns : tie.Need-returns
 returns c =
     let a = c.before.before.before.before.args in
     let e = c.before.size-refusal.ensures in
-    size-refused a.bytes.now a.words.now (λ z. c.if1.true (e ∙ z))
+    size_refused a.bytes.now a.words.now (λ z. c.if1.true (e ∙ z))
 
 put-words-requires : tie.Need-put-words-requires
 put-words-requires c κs =
@@ -45,7 +45,7 @@ returns-2 c =
     let p3 = p2.before.before.before in
     let p4 = p3.before.before.before in
     let z = sym p3.size-refusal.ensures ∙ p2.before.before.if1.false in
-    size-taken p4.args.bytes.now p4.args.words.now _ _ z p2.put-words.ensures c.check.ensures
+    size_taken p4.args.bytes.now p4.args.words.now _ _ z p2.put-words.ensures c.check.ensures
 
 pub load_spec : {M : Type 1} → statement M
 load_spec =

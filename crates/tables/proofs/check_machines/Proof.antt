@@ -8,8 +8,8 @@ use native.Mathlib.Nat.{sub-zero}
 use Rattle.machine.specs.State.{rows_of}
 use Rattle.rows.specs.First.{first_refusal}
 use Rattle.tables.specs.Machine.{machine_refusal, machines_refusal}
-use Rattle.rows.specs.First.Laws.{first_on, first-here, first-end}
-use Rattle.tables.proofs.Parts.{one-row, one-length}
+use Rattle.rows.specs.First.Laws.{first_on, first_here, first_end}
+use Rattle.tables.proofs.Parts.{one_row, one_length}
 use Rattle.tables.proofs.check_machines.Statement.{statement}
 use Rattle.tables.proofs.check_machines.Tie as tie
 
@@ -43,12 +43,12 @@ part-check-machine-end : tie.Need-slice-bounds-check-machine-end invariant-loop 
 part-check-machine-end c = search rules
 
 check-machine-requires : tie.Need-check-machine-requires invariant-loop decreases-loop
-check-machine-requires c κs = one-length 6 c.before.before.before.before.before.before.args.machines.now c.before.before.loop.i (omega (arith, c.before.loop-test.true))
+check-machine-requires c κs = one_length 6 c.before.before.before.before.before.before.args.machines.now c.before.before.loop.i (omega (arith, c.before.loop-test.true))
 
 returns : tie.Need-returns invariant-loop decreases-loop
 returns c =
-    let e = rw (one-row 6 _ _) at c.before.check-machine.ensures in
-    e ∙ sym (c.before.before.before.before.loop.invariant.1 ∙ first-here _ _ _ c.before.before.before.loop-test.true (λ z. c.if1.true (e ∙ z)))
+    let e = rw (one_row 6 _ _) at c.before.check-machine.ensures in
+    e ∙ sym (c.before.before.before.before.loop.invariant.1 ∙ first_here _ _ _ c.before.before.before.loop-test.true (λ z. c.if1.true (e ∙ z)))
 
 add-i : tie.Need-overflow-add-i invariant-loop decreases-loop
 add-i c = search rules
@@ -58,11 +58,11 @@ loop-less c = search rules
 
 loop-again : tie.Need-loop-preserved invariant-loop decreases-loop
 loop-again c =
-    let e = rw (one-row 6 _ _) at c.before.check-machine.ensures in
+    let e = rw (one_row 6 _ _) at c.before.check-machine.ensures in
     (search rules, c.before.before.before.before.loop.invariant.1 ∙ first_on _ _ _ c.before.before.before.loop-test.true (sym e ∙ c.if1.false))
 
 returns-2 : tie.Need-returns-2 invariant-loop decreases-loop
-returns-2 c = sym (c.before.loop.invariant.1 ∙ first-end _ _ _ c.loop-test.false)
+returns-2 c = sym (c.before.loop.invariant.1 ∙ first_end _ _ _ c.loop-test.false)
 
 pub check-machines-spec : {M : Type 1} → statement M
 check-machines-spec =

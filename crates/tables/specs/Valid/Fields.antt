@@ -154,9 +154,9 @@ of_known_action row k = by (which (action_of row))
         other a h p q r s u = omega arith
 
 module _ (row : List ℕ) (k : ℕ) where
-  pub known-counter : counter_unknown row k ≡ false → KnownCounter row k
+  pub known_counter : counter_unknown row k ≡ false → KnownCounter row k
   unfolding counter_unknown
-  known-counter e = by (eqb (get_or row k 0) 0) refl
+  known_counter e = by (eqb (get_or row k 0) 0) refl
     where
       by : (b : Bool) → eqb (get_or row k 0) 0 ≡ b → KnownCounter row k
       by true p = inl (eqb-true _ 0 p)
@@ -165,27 +165,27 @@ module _ (row : List ℕ) (k : ℕ) where
           let v = or_none (ltb 3 (get_or row k 0)) (ltb 1 (get_or row (k + 1) 0)) u.0 in
           inr (ltb-false 3 _ v.0, (ltb-false 1 _ v.1, ltb-false 2 _ u.1))
 
-  pub of-known-counter : KnownCounter row k → counter_unknown row k ≡ false
+  pub of_known_counter : KnownCounter row k → counter_unknown row k ≡ false
   unfolding counter_unknown
-  of-known-counter (inl h) = rw (eq-eqb (get_or row k 0) 0 h)
-  of-known-counter (inr (o, (c, d))) = by (eqb (get_or row k 0) 0)
+  of_known_counter (inl h) = rw (eq-eqb (get_or row k 0) 0 h)
+  of_known_counter (inr (o, (c, d))) = by (eqb (get_or row k 0) 0)
     where
       by : (b : Bool) → cond b false (ltb 3 (get_or row k 0) || ltb 1 (get_or row (k + 1) 0) || ltb 2 (get_or row (k + 2) 0)) ≡ false
       by true = refl
       by false = none_or (none_or (le-ltb 3 _ o) (le-ltb 1 _ c)) (le-ltb 2 _ d)
 
 module _ (row : List ℕ) where
-  pub known-codes : codes_unknown row ≡ false → KnownCodes row
+  pub known_codes : codes_unknown row ≡ false → KnownCodes row
   unfolding codes_unknown
-  known-codes e =
+  known_codes e =
       let u = or_none (action_unknown row || counter_unknown row counter_a) (counter_unknown row counter_b) e in
       let v = or_none (action_unknown row) (counter_unknown row counter_a) u.0 in
-      record { action = known_action row v.0; a = known-counter row counter_a v.1; b = known-counter row counter_b u.1 }
+      record { action = known_action row v.0; a = known_counter row counter_a v.1; b = known_counter row counter_b u.1 }
 
-  pub of-known-codes : KnownCodes row → codes_unknown row ≡ false
+  pub of_known_codes : KnownCodes row → codes_unknown row ≡ false
   unfolding codes_unknown
-  of-known-codes k =
-      none_or (none_or (of_known_action row k.action) (of-known-counter row counter_a k.a)) (of-known-counter row counter_b k.b)
+  of_known_codes k =
+      none_or (none_or (of_known_action row k.action) (of_known_counter row counter_a k.a)) (of_known_counter row counter_b k.b)
 
 -- ---- distributions
 valid : (row : List ℕ) (k : ℕ) → invalid row k ≡ false → ValidDist row k
@@ -227,9 +227,9 @@ three p q r (inl e) = absurd (p e)
 three p q r (inr e) = two q r e
 
 module _ (row : List ℕ) where
-  pub valid-action : action_invalid row ≡ false → ValidAction row
+  pub valid_action : action_invalid row ≡ false → ValidAction row
   unfolding action_invalid
-  valid-action e = by (having (action_of row))
+  valid_action e = by (having (action_of row))
     where
       by : Having (action_of row) → ValidAction row
       by (has-padding p) =
@@ -260,9 +260,9 @@ module _ (row : List ℕ) where
         limit = three (eqb-false _ 2 w) (eqb-false _ 3 t) (eqb-false _ 4 f);
       }
 
-  pub of-valid-action : ValidAction row → action_invalid row ≡ false
+  pub of_valid_action : ValidAction row → action_invalid row ≡ false
   unfolding action_invalid
-  of-valid-action v = by (having (action_of row))
+  of_valid_action v = by (having (action_of row))
     where
       by : Having (action_of row) → action_invalid row ≡ false
       by (has-padding p) =
@@ -278,32 +278,32 @@ module _ (row : List ℕ) where
       by (has-none w t f) = rw (w, t, f)
 
 module _ (row : List ℕ) (k : ℕ) where
-  pub valid-counter : counter_invalid row k ≡ false → ValidCounter row k
+  pub valid_counter : counter_invalid row k ≡ false → ValidCounter row k
   unfolding counter_invalid
-  valid-counter e = by (eqb (get_or row k 0) 0) refl
+  valid_counter e = by (eqb (get_or row k 0) 0) refl
     where
       by : (b : Bool) → eqb (get_or row k 0) 0 ≡ b → ValidCounter row k
       by true p = inl (eqb-true _ 0 p)
       by false p = inr (valid row (k + 2) (rw p at e))
 
-  pub of-valid-counter : ValidCounter row k → counter_invalid row k ≡ false
+  pub of_valid_counter : ValidCounter row k → counter_invalid row k ≡ false
   unfolding counter_invalid
-  of-valid-counter (inl h) = rw (eq-eqb (get_or row k 0) 0 h)
-  of-valid-counter (inr h) = by (eqb (get_or row k 0) 0)
+  of_valid_counter (inl h) = rw (eq-eqb (get_or row k 0) 0 h)
+  of_valid_counter (inr h) = by (eqb (get_or row k 0) 0)
     where
       by : (b : Bool) → cond b false (invalid row (k + 2)) ≡ false
       by true = refl
       by false = of_valid row (k + 2) h
 
 module _ (row : List ℕ) where
-  pub valid-dists : dists_invalid row ≡ false → ValidDists row
+  pub valid_dists : dists_invalid row ≡ false → ValidDists row
   unfolding dists_invalid
-  valid-dists e =
+  valid_dists e =
       let u = or_none (action_invalid row || counter_invalid row counter_a) (counter_invalid row counter_b) e in
       let v = or_none (action_invalid row) (counter_invalid row counter_a) u.0 in
-      record { action = valid-action row v.0; a = valid-counter row counter_a v.1; b = valid-counter row counter_b u.1 }
+      record { action = valid_action row v.0; a = valid_counter row counter_a v.1; b = valid_counter row counter_b u.1 }
 
-  pub of-valid-dists : ValidDists row → dists_invalid row ≡ false
+  pub of_valid_dists : ValidDists row → dists_invalid row ≡ false
   unfolding dists_invalid
-  of-valid-dists k =
-      none_or (none_or (of-valid-action row k.action) (of-valid-counter row counter_a k.a)) (of-valid-counter row counter_b k.b)
+  of_valid_dists k =
+      none_or (none_or (of_valid_action row k.action) (of_valid_counter row counter_a k.a)) (of_valid_counter row counter_b k.b)

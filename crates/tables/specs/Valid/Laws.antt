@@ -1,5 +1,5 @@
 -- The answer of the tables is that of document 01: `answered` says of each number where its condition is met first, and
--- `zero-valid` and `valid-zero` that 0 is answered exactly for `Valid` tables. Assumes nothing.
+-- `zero_valid` and `valid_zero` that 0 is answered exactly for `Valid` tables. Assumes nothing.
 use Prim.Native.Nat.{ℕ, ◌+◌, ◌*◌, ◌/◌, ◌%◌, ◌≤◌, ◌<◌}
 use Rattle.std.proofs.Common.{zero-add, arith, sym, ◌∙◌, subst, inl, inr}
 use Rattle.std.specs.Prelude.{◌≡◌, List, Bool, ◌&&◌, ◌||◌, ◌⊎◌, length, get_or}
@@ -19,8 +19,8 @@ use Rattle.tables.specs.Machine.{beyond_fraction, each_state, states_refusal, ma
 use Rattle.tables.specs.Valid.{Fraction, ValidTransition, ValidPair, ValidEvents, ValidState, ValidPlace, state_of, ValidMachine, Whole, Valid, FirstAt}
 use Rattle.tables.specs.Valid.{TransitionAnswer, transition-passes, nine, ten, eleven, twelve, PairAnswer, pair-passes, eight, first-transition, thirteen}
 use Rattle.tables.specs.Valid.{StateAnswer, state-passes, first-event, fourteen, fifteen, MachineAnswer, machine-passes, four, five, six, seven, first-state, TablesAnswer, tables_pass, three, first-machine}
-use Rattle.tables.specs.Valid.Tests.{fraction, no_fraction, of-fraction, probability, no-probability, of-probability, target, of-target, unseen, seen, of-unseen, clash}
-use Rattle.tables.specs.Valid.Fields.{known-codes, of-known-codes, valid-dists, of-valid-dists}
+use Rattle.tables.specs.Valid.Tests.{fraction, no_fraction, of_fraction, probability, no_probability, of_probability, target, of_target, unseen, seen, of_unseen, clash}
+use Rattle.tables.specs.Valid.Fields.{known_codes, of_known_codes, valid_dists, of_valid_dists}
 
 -- ---- the first refusal met, of f at i, i + 1, .., k of them
 -- with what f's answers say: of 0 that j is good, of any other what `Answer` says
@@ -70,10 +70,10 @@ module _ (ts : List ℕ) (n first i : ℕ) (from : first ≤ i) where
           (c : Bool) → seen_before ts first i ≡ c → (d : Bool) → improbable (probability_at ts i) ≡ d →
           TransitionAnswer ts n first i (cond a 9 (cond b (cond c 11 (cond d 12 0)) 10))
       by true p b q c r d s = nine refl (leb-true _ _ p)
-      by false p false q c r d s = ten refl (leb-false _ _ p) (λ t. clash (of-target _ _ t) q)
+      by false p false q c r d s = ten refl (leb-false _ _ p) (λ t. clash (of_target _ _ t) q)
       by false p true q true r d s = eleven refl (leb-false _ _ p) (target _ _ q) (seen ts first i from r)
       by false p true q false r true s =
-          twelve refl (leb-false _ _ p) (target _ _ q) (unseen ts first i from r) (no-probability _ s)
+          twelve refl (leb-false _ _ p) (target _ _ q) (unseen ts first i from r) (no_probability _ s)
       by false p true q false r false s =
           transition-passes refl
           (record { word = leb-false _ _ p; target = target _ _ q; unseen = unseen ts first i from r; probability = probability _ s })
@@ -81,7 +81,7 @@ module _ (ts : List ℕ) (n first i : ℕ) (from : first ≤ i) where
   transition-zero : ValidTransition ts n first i → transition_refusal ts n i (seen_before ts first i) ≡ 0
   unfolding transition_refusal
   transition-zero v =
-      rw (lt-leb _ _ v.word, of-target _ _ v.target, of-unseen ts first i from v.unseen, of-probability _ v.probability)
+      rw (lt-leb _ _ v.word, of_target _ _ v.target, of_unseen ts first i from v.unseen, of_probability _ v.probability)
 
   zero-transition : transition_refusal ts n i (seen_before ts first i) ≡ 0 → ValidTransition ts n first i
   zero-transition e = by transition-answered
@@ -119,7 +119,7 @@ module _ (ts : List ℕ) (n first count : ℕ) where
           subst (λ (m : ℕ). PairAnswer ts n first count m) (sym (second e)) (sum (improbable (sum_from ts first count (of_bits binary32 0))) refl)
         where
           sum : (b : Bool) → improbable (sum_from ts first count (of_bits binary32 0)) ≡ b → PairAnswer ts n first count (cond b 13 0)
-          sum true p = thirteen refl more within all (no-probability _ p)
+          sum true p = thirteen refl more within all (no_probability _ p)
           sum false p = pair-passes refl (inr (record { within = within; transitions = all; sum = probability _ p }))
 
   pair-answered : PairAnswer ts n first count (pair_refusal ts n first count)
@@ -149,7 +149,7 @@ module _ (ts : List ℕ) (n first count : ℕ) where
       passed : row_refusal ts n first count ≡ 0
       passed =
           second (all_zero (at ts n first) count first (λ j h g. transition-zero ts n first j h (v.transitions j h g)))
-          ∙ rw (of-probability _ v.sum)
+          ∙ rw (of_probability _ v.sum)
 
       by : (a : Bool) → cond a 0 (cond (leb ((first + count) * transition_words) (length ts)) (row_refusal ts n first count) 8) ≡ 0
       by true = refl
@@ -188,10 +188,10 @@ module _ (ts : List ℕ) (n : ℕ) (row : List ℕ) where
           events event h = all event (omega arith) h
 
           fields : (a : Bool) → codes_unknown row ≡ a → (b : Bool) → dists_invalid row ≡ b → StateAnswer ts n row (cond a 14 (cond b 15 0))
-          fields true p b q = fourteen refl events (λ k. clash p (of-known-codes row k))
-          fields false p true q = fifteen refl events (known-codes row p) (λ k. clash q (of-valid-dists row k))
+          fields true p b q = fourteen refl events (λ k. clash p (of_known_codes row k))
+          fields false p true q = fifteen refl events (known_codes row p) (λ k. clash q (of_valid_dists row k))
           fields false p false q =
-              state-passes refl (record { events = events; codes = known-codes row p; dists = valid-dists row q })
+              state-passes refl (record { events = events; codes = known_codes row p; dists = valid_dists row q })
 
   zero-state : state_refusal ts n row ≡ 0 → ValidState ts n row
   zero-state e = by state-answered
@@ -206,7 +206,7 @@ module _ (ts : List ℕ) (n : ℕ) (row : List ℕ) where
   unfolding state_refusal events_refusal
   state-zero v =
       second (all_zero (on_event ts n row) event_num 0 (λ j h g. pair-zero ts n (first_of row j) (count_of row j) (v.events j g)))
-      ∙ rw (of-known-codes row v.codes, of-valid-dists row v.dists)
+      ∙ rw (of_known_codes row v.codes, of_valid_dists row v.dists)
 
 -- ---- a machine
 module _ (states ts row : List ℕ) where
@@ -275,8 +275,8 @@ module _ (states ts row : List ℕ) where
   machine-zero v =
       let some : n ≡ 0 → ⊥ = λ e. omega (arith, v.place.some) in
       rw (
-        of-fraction _ v.padding,
-        of-fraction _ v.blocking,
+        of_fraction _ v.padding,
+        of_fraction _ v.blocking,
         ne_eqb n 0 some,
         le-ltb state_max n v.place.most,
         le-leb _ _ v.place.within,
@@ -314,15 +314,15 @@ module _ (machines states ts : List ℕ) where
       let v = and_split (a && b) c u.0 in
       let w = and_split a b v.0 in
       record {
-        machine-rows = eqb-true _ 0 w.0;
-        state-rows = eqb-true _ 0 w.1;
-        transition-rows = eqb-true _ 0 v.1;
+        machine_rows_lem = eqb-true _ 0 w.0;
+        state_rows_lem = eqb-true _ 0 w.1;
+        transition_rows_lem = eqb-true _ 0 v.1;
         most = leb-true _ _ u.1;
       }
 
   of-whole : Whole machines states ts → whole_tables machines states ts ≡ true
   unfolding whole_tables
-  of-whole w = rw (eq-eqb _ 0 w.machine-rows, eq-eqb _ 0 w.state-rows, eq-eqb _ 0 w.transition-rows) (le-leb _ _ w.most)
+  of-whole w = rw (eq-eqb _ 0 w.machine_rows_lem, eq-eqb _ 0 w.state_rows_lem, eq-eqb _ 0 w.transition_rows_lem) (le-leb _ _ w.most)
 
   -- Of each number: its condition holds, at the first place in document 01's order. Of 0: the tables are valid.
   pub answered : TablesAnswer machines states ts (tables_refusal machines states ts)
@@ -343,17 +343,17 @@ module _ (machines states ts : List ℕ) where
           (λ j h e. zero-machine states ts (machine_of j) e) (λ j h. machine-answered states ts (machine_of j)))
 
   -- No refusal is met exactly where the tables are valid.
-  pub zero-valid : tables_refusal machines states ts ≡ 0 → Valid machines states ts
-  zero-valid e = by answered
+  pub zero_valid : tables_refusal machines states ts ≡ 0 → Valid machines states ts
+  zero_valid e = by answered
     where
       by : TablesAnswer machines states ts (tables_refusal machines states ts) → Valid machines states ts
       by (tables_pass r v) = v
       by (three r w) = absurd (omega arith)
       by (first-machine r w f) = absurd (omega arith)
 
-  pub valid-zero : Valid machines states ts → tables_refusal machines states ts ≡ 0
+  pub valid_zero : Valid machines states ts → tables_refusal machines states ts ≡ 0
   unfolding tables_refusal
-  valid-zero v =
+  valid_zero v =
       rw (of-whole v.whole)
       (all_zero on_machine many 0
       (λ j h g. machine-zero states ts (machine_of j) (v.each j (subst (λ (m : ℕ). j < m) (zero-add many) g))))

@@ -39,21 +39,21 @@ module _ (x : Float) where
   unfolding beyond_fraction
   no_fraction e f = clash e (none_or f.0 f.1)
 
-  pub of-fraction : Fraction x → beyond_fraction x ≡ false
+  pub of_fraction : Fraction x → beyond_fraction x ≡ false
   unfolding beyond_fraction
-  of-fraction f = none_or f.0 f.1
+  of_fraction f = none_or f.0 f.1
 
   pub probability : improbable x ≡ false → Probability x
   unfolding improbable
   probability e = or_none _ _ e
 
-  pub no-probability : improbable x ≡ true → Probability x → ⊥
+  pub no_probability : improbable x ≡ true → Probability x → ⊥
   unfolding improbable
-  no-probability e f = clash e (none_or f.0 f.1)
+  no_probability e f = clash e (none_or f.0 f.1)
 
-  pub of-probability : Probability x → improbable x ≡ false
+  pub of_probability : Probability x → improbable x ≡ false
   unfolding improbable
-  of-probability f = none_or f.0 f.1
+  of_probability f = none_or f.0 f.1
 
 -- ---- targets
 module _ (n t : ℕ) where
@@ -65,11 +65,11 @@ module _ (n t : ℕ) where
       (λ p. inr (inr (eqb-true t state_signal p)))
       (or_some (ltb t n || eqb t state_end) (eqb t state_signal) e)
 
-  pub of-target : Target n t → is_target n t ≡ true
+  pub of_target : Target n t → is_target n t ≡ true
   unfolding is_target
-  of-target (inl h) = rw (lt-ltb t n h)
-  of-target (inr (inl h)) = rw (eq-eqb t state_end h, or-true (ltb t n))
-  of-target (inr (inr h)) = rw (eq-eqb t state_signal h) (or-true (ltb t n || eqb t state_end))
+  of_target (inl h) = rw (lt-ltb t n h)
+  of_target (inr (inl h)) = rw (eq-eqb t state_end h, or-true (ltb t n))
+  of_target (inr (inr h)) = rw (eq-eqb t state_signal h) (or-true (ltb t n || eqb t state_end))
 
 -- ---- targets seen before
 module _ (ts : List ℕ) (t : ℕ) where
@@ -98,8 +98,8 @@ module _ (ts : List ℕ) (first i : ℕ) (from : first ≤ i) where
       let s = seen-in ts (target_at ts i) (i - first) first e in
       record { earlier = s.0; within = s.1.0; before = omega (arith, s.1.1.0); same = s.1.1.1 }
 
-  pub of-unseen : (Seen ts first i → ⊥) → seen_before ts first i ≡ false
-  of-unseen h = either (seen_before ts first i) refl
+  pub of_unseen : (Seen ts first i → ⊥) → seen_before ts first i ≡ false
+  of_unseen h = either (seen_before ts first i) refl
     where
       either : (b : Bool) → seen_before ts first i ≡ b → b ≡ false
       either true p = absurd (h (seen p))

@@ -4,7 +4,7 @@ use Prim.Native.Nat.{◌+◌, ◌*◌, ◌-◌, ◌≤◌}
 use mathlib.Core.Path.{◌≡◌, refl, ◌∙◌}
 use native.Mathlib.Omega.{arith}
 use lib.ListN.{length}
-use Rattle.text.proofs.Lines.{Lined, no_row, one-row, all-rows}
+use Rattle.text.proofs.Lines.{Lined, no_row, one_row, all_rows_lem}
 use borrow.Author.Rules.{rules}
 use Rattle.text.proofs.call_text.Statement.{statement}
 use Rattle.text.proofs.call_text.Tie as tie
@@ -45,7 +45,7 @@ loop-again c =
       omega arith,
       omega arith,
       r.auto.0 ∙ l.invariant.2,
-      one-row a.call a.refusal a.actions a.rows.now _ l.out _ l.at l.i l.invariant.3 r.ensures,
+      one_row a.call a.refusal a.actions a.rows.now _ l.out _ l.at l.i l.invariant.3 r.ensures,
     )
 
 same_length : tie.Need-same-length invariant-loop decreases-loop
@@ -57,7 +57,7 @@ returns c =
     let l = c.before.loop in
     let e : l.i ≡ a.actions = omega arith in (
       omega arith,
-      all-rows a.call a.refusal a.actions a.rows.now a.out.now _ c.before.before.before.before.call_line.ensures l.out l.at l.i
+      all_rows_lem a.call a.refusal a.actions a.rows.now a.out.now _ c.before.before.before.before.call_line.ensures l.out l.at l.i
           (omega arith)
           e
           l.invariant.3,

@@ -10,7 +10,7 @@ use lib.ListN.{length}
 use borrow.Author.Tests.{eq-eqb, ne_eqb, le-leb, lt-leb}
 use Rattle.steps.specs.Events.{kind_at}
 use Rattle.steps.specs.Framework.{kinds_fit, events_fit}
-use Rattle.events.proofs.All.{all_more, all-fails}
+use Rattle.events.proofs.All.{all_more, all_fails}
 use Rattle.framework.proofs.checks.events_fit.Statement.{statement}
 use Rattle.framework.proofs.checks.events_fit.Tie as tie
 
@@ -21,7 +21,7 @@ module _ (es : List ℕ) where
 
   fails : (i n : ℕ) → i < n → kinds_fit es i ≡ true → leb (kind_at es i) 9 ≡ false → kinds_fit es n ≡ false
   unfolding kinds_fit
-  fails = all-fails (kinds_fit es) (λ (n : ℕ). leb (kind_at es n) 9) (λ n. refl)
+  fails = all_fails (kinds_fit es) (λ (n : ℕ). leb (kind_at es n) 9) (λ n. refl)
 
 abbrev invariant-loop : tie.invariant-loop
 invariant-loop events n i₀ i = (i ≤ n) × (kinds_fit events i ≡ true)

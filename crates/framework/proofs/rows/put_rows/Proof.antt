@@ -7,7 +7,7 @@ use native.Mathlib.Omega.{arith}
 use lib.ListN.{length, get_or, length-take, length-drop}
 use Rattle.steps.specs.Transition.{no_action}
 use Rattle.steps.specs.Framework.{action_rows, written}
-use Rattle.framework.proofs.Written.{row_short, rows-longer, row_written, same}
+use Rattle.framework.proofs.Written.{row_short, rows_longer, row_written, same}
 use Rattle.framework.proofs.rows.put_rows.Statement.{statement}
 use Rattle.framework.proofs.rows.put_rows.Tie as tie
 
@@ -77,7 +77,7 @@ loop-again c =
     let m = loop.m in
     let fits : loop.at ≤ length loop.out = omega (arith, loop-test.true, loop.invariant.2, loop.invariant.3, pre.1) in (
       omega (arith, loop-test.true),
-      omega (arith, put-row.ensures.0, rows-longer a m, loop.invariant.1),
+      omega (arith, put-row.ensures.0, rows_longer a m, loop.invariant.1),
       omega (arith, put-row.ensures.0, row_short m (get_or a m no_action), loop.invariant.2),
       same loop.out put-row.new.0 loop.at fits put-row.auto.0 ∙ loop.invariant.3,
       row_written a m args.out.now loop.out put-row.new.0 loop.at loop.invariant.1 loop.invariant.4

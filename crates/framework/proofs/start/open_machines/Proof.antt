@@ -9,7 +9,7 @@ use native.Mathlib.Omega.{arith}
 use Rattle.steps.specs.Framework.{open_run}
 use Rattle.machine.specs.Words.{lent}
 use Rattle.events.specs.Run.{tables}
-use Rattle.framework.proofs.Opens.{Opens, opens-end, opens-on, opens-stop}
+use Rattle.framework.proofs.Opens.{Opens, opens_end, opens_on, opens_stop}
 use Rattle.framework.proofs.start.open_machines.Statement.{statement}
 use Rattle.framework.proofs.start.open_machines.Tie as tie
 
@@ -44,7 +44,7 @@ unopened-requires c κs = search rules
 returns : tie.Need-returns invariant-loop decreases-loop
 returns c =
     λ ts.
-    rw (opens-stop (c.before.before.before.before.before.before.loop.invariant.2 ts) c.before.before.before.before.before.loop-test.true
+    rw (opens_stop (c.before.before.before.before.before.before.loop.invariant.2 ts) c.before.before.before.before.before.loop-test.true
     (rw (← c.before.before.before.before.before.before.loop.invariant.1) at (sym (c.before.before.before.before.open-machine.ensures ts) ∙ c.before.before.entered.given.1)))
     c.unopened.ensures
 
@@ -68,12 +68,12 @@ loop-again c = (
   omega (arith, c.before.before.before.before.loop-test.true),
   c.before.before.before.before.before.loop.invariant.1,
   λ ts.
-      opens-on (c.before.before.before.before.before.loop.invariant.2 ts) c.before.before.before.before.loop-test.true
+      opens_on (c.before.before.before.before.before.loop.invariant.2 ts) c.before.before.before.before.loop-test.true
       (rw (← c.before.before.before.before.before.loop.invariant.1) at (sym (c.before.before.before.open-machine.ensures ts) ∙ c.before.entered2.given.1)),
 )
 
 returns-2 : tie.Need-returns-2 invariant-loop decreases-loop
-returns-2 c = λ ts. rw (opens-end (c.before.loop.invariant.2 ts) c.loop-test.false)
+returns-2 c = λ ts. rw (opens_end (c.before.loop.invariant.2 ts) c.loop-test.false)
 
 pub open-machines-spec : {M : Type 1} → statement M
 open-machines-spec =

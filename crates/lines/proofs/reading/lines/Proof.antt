@@ -6,7 +6,7 @@ use mathlib.Core.List.{List}
 use native.Mathlib.Omega.{arith}
 use lib.ListN.{length}
 use Rattle.cells.specs.Cells.{leading}
-use Rattle.cells.specs.Laws.{Passed, passed_none, passed-more, passed-fails, passed-all}
+use Rattle.cells.specs.Laws.{Passed, passed_none, passed_more, passed_fails, passed_all}
 use Rattle.lines.specs.Lines.{line_bytes, is_line, lines}
 use Rattle.lines.proofs.Places.{one_of, all_of, next_at}
 use Rattle.lines.proofs.Kind.{line_at}
@@ -63,7 +63,7 @@ loop-again c =
       omega arith,
       next_at a.size l.i l.at l.invariant.1,
       omega arith,
-      passed-more (is_line a.kind a.words) a.size (length a.text.now / a.size) a.text.now l.i inside l.invariant.3 test,
+      passed_more (is_line a.kind a.words) a.size (length a.text.now / a.size) a.text.now l.i inside l.invariant.3 test,
     )
 
 returns : tie.Need-returns invariant-loop decreases-loop
@@ -73,7 +73,7 @@ returns c =
     let l = c.before.before.before.before.loop in
     let inside = one_of a.size (length a.text.now) l.i l.at (omega arith) l.invariant.1 (omega arith) in
     let test = line_at a.text.now a.kind a.words a.size l.i l.at _ _ false refl l.invariant.1 c.before.is-line.ensures c.if1.false in (
-      passed-fails (is_line a.kind a.words) a.size (length a.text.now / a.size) a.text.now l.i inside l.invariant.3 test
+      passed_fails (is_line a.kind a.words) a.size (length a.text.now / a.size) a.text.now l.i inside l.invariant.3 test
           ∙ by_size a.text.now a.kind a.words a.size s.requires.0,
       rw (← l.invariant.1) l.invariant.0,
     )
@@ -84,7 +84,7 @@ returns-2 c =
     let a = s.args in
     let l = c.before.loop in
     let all = all_of a.size (length a.text.now) l.i l.at (omega arith) l.invariant.1 l.invariant.0 (omega arith) in (
-      passed-all (is_line a.kind a.words) a.size (length a.text.now / a.size) a.text.now l.i all l.invariant.3
+      passed_all (is_line a.kind a.words) a.size (length a.text.now / a.size) a.text.now l.i all l.invariant.3
           ∙ by_size a.text.now a.kind a.words a.size s.requires.0,
       rw (← l.invariant.1) l.invariant.0,
     )

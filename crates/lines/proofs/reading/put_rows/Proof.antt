@@ -8,7 +8,7 @@ use Rattle.machine.specs.Part.{same}
 use Rattle.cells.specs.Cells.{each}
 use Rattle.lines.specs.Lines.{words_of, table_of}
 use Rattle.lines.proofs.Places.{inside, next_at}
-use Rattle.lines.proofs.Filled.{one-row}
+use Rattle.lines.proofs.Filled.{one_row}
 use borrow.Author.Rules.{rules}
 use Rattle.lines.proofs.reading.put_rows.Statement.{statement}
 use Rattle.lines.proofs.reading.put_rows.Tie as tie
@@ -109,7 +109,7 @@ loop-again c =
       next_at a.size l.i l.at l.invariant.1,
       next_at a.words l.i l.row l.invariant.2,
       same l.table r.new.1.1.0 l.row (omega arith) r.auto.1.1.0 ∙ l.invariant.3,
-      one-row a.text.now a.words a.size l.i s.requires.0 a.table.now l.table r.new.1.1.0 l.at _ l.row l.invariant.1 l.invariant.2 refl line l.invariant.4 r.ensures,
+      one_row a.text.now a.words a.size l.i s.requires.0 a.table.now l.table r.new.1.1.0 l.at _ l.row l.invariant.1 l.invariant.2 refl line l.invariant.4 r.ensures,
     )
 
 same_length : tie.Need-same-length invariant-loop decreases-loop

@@ -7,7 +7,7 @@ use native.Mathlib.Omega.{arith}
 use native.Mathlib.Nat.{add-sub_cancel_left}
 use lib.Ieee.{binary32, of_bits}
 use Rattle.machine.specs.State.{walk}
-use Rattle.machine.proofs.Walk.{row_within, row-beyond, walk-on, walk-stops, walk_ends}
+use Rattle.machine.proofs.Walk.{row_within, row_beyond, walk_on, walk_stops, walk_ends}
 use Rattle.machine.proofs.state.sample_state.Statement.{statement}
 use Rattle.machine.proofs.state.sample_state.Tie as tie
 
@@ -22,12 +22,12 @@ decreases-loop transitions first count draw rows start n end i₀ sum₀ i sum =
 returns : tie.Need-returns invariant-loop decreases-loop
 returns c =
     let a = c.before.before.args in
-    sym (row-beyond a.transitions.now a.first a.count a.draw (omega arith))
+    sym (row_beyond a.transitions.now a.first a.count a.draw (omega arith))
 
 returns-2 : tie.Need-returns-2 invariant-loop decreases-loop
 returns-2 c =
     let a = c.before.before.before.args in
-    sym (row-beyond a.transitions.now a.first a.count a.draw (omega arith))
+    sym (row_beyond a.transitions.now a.first a.count a.draw (omega arith))
 
 add-end : tie.Need-overflow-add-end invariant-loop decreases-loop
 add-end c = search rules
@@ -67,7 +67,7 @@ loop-again c =
     let a = c.before.before.before.before.before.before.before.before.args in
     let l = c.before.before.before.before.loop in
     let p = c.before.f32-of-word.ensures in
-    let more = walk-on a.transitions.now l.i (a.first + a.count) l.sum a.draw in
+    let more = walk_on a.transitions.now l.i (a.first + a.count) l.sum a.draw in
     let passed = rw p at c.if4.false in
     (search rules, l.invariant.1 ∙ rw p (more c.before.before.before.if3.false passed))
 
@@ -85,7 +85,7 @@ returns-4 c =
     let l = c.before.before.before.before.before.loop in
     let p = c.before.before.f32-of-word.ensures in
     let whole = row_within a.transitions.now a.first a.count a.draw (omega arith) in
-    let found = walk-stops a.transitions.now l.i (a.first + a.count) l.sum a.draw in
+    let found = walk_stops a.transitions.now l.i (a.first + a.count) l.sum a.draw in
     let exceeds = rw p at c.before.if4.true in
     sym (whole ∙ l.invariant.1 ∙ found c.before.before.before.before.if3.false exceeds)
 

@@ -37,7 +37,7 @@ returns : tie.Need-returns
 unfolding rows_of
 returns c =
     let a = c.before.before.before.before.args in
-    let start = c.before.before.state-words.ensures.0 in
+    let start = c.before.before.state_words_lem.ensures.0 in
     let words = c.before.state-words2.ensures.0 in
     simp (add-sub_cancel_left, words, start)
     (part_cut a.states.now (a.first * state_words) (a.count * state_words))

@@ -1,5 +1,5 @@
 -- `sheet::reading::put_tables` meets its contract: each table's lines stand where those of the kinds before end.
-use Rattle.sheet.proofs.Formed.{states-at, transitions-at}
+use Rattle.sheet.proofs.Formed.{states_at_lem, transitions_at_lem}
 use borrow.Author.Rules.{rules}
 use Rattle.sheet.proofs.reading.put_tables.Statement.{statement}
 use Rattle.sheet.proofs.reading.put_tables.Tie as tie
@@ -54,8 +54,8 @@ returns c =
     let s = c.before.before.before.before.before.before.before.before.before.before.before.before.before.before.before.before.before.before.before.before in
     let a = s.args in (
       c.before.before.before.before.before.before.before.before.before.before.before.before.put-rows.ensures,
-      rw (states-at a.sheet.now a.rows s.requires.0) at c.before.before.before.before.before.before.before.put-rows2.ensures,
-      rw (transitions-at a.sheet.now a.rows s.requires.0) at c.before.before.put-rows3.ensures,
+      rw (states_at_lem a.sheet.now a.rows s.requires.0) at c.before.before.before.before.before.before.before.put-rows2.ensures,
+      rw (transitions_at_lem a.sheet.now a.rows s.requires.0) at c.before.before.put-rows3.ensures,
     )
 
 pub put-tables-spec : {M : Type 1} → statement M

@@ -10,8 +10,8 @@ use Rattle.machine.specs.State.{state_row}
 use Rattle.rows.specs.First.{first_refusal}
 use Rattle.tables.specs.State.{state_refusal}
 use Rattle.tables.specs.Machine.{each_state}
-use Rattle.rows.specs.First.Laws.{first_on, first-here, first-end}
-use Rattle.tables.proofs.Parts.{one-row, one-length}
+use Rattle.rows.specs.First.Laws.{first_on, first_here, first_end}
+use Rattle.tables.proofs.Parts.{one_row, one_length}
 use Rattle.tables.proofs.machine_row.check_each_state.Statement.{statement}
 use Rattle.tables.proofs.machine_row.check_each_state.Tie as tie
 
@@ -48,7 +48,7 @@ part-check-state-end c = search rules
 check-state-requires : tie.Need-check-state-requires invariant-loop decreases-loop
 check-state-requires c κs = (
   search rules,
-  one-length state_words c.before.before.before.before.before.args.rows.now
+  one_length state_words c.before.before.before.before.before.args.rows.now
       c.before.before.loop.i (omega (
         arith,
         c.before.before.before.before.before.requires.0,
@@ -58,8 +58,8 @@ check-state-requires c κs = (
 
 returns : tie.Need-returns invariant-loop decreases-loop
 returns c =
-    let e = rw (one-row state_words _ _) at c.before.check-state.ensures in
-    e ∙ sym (c.before.before.before.before.loop.invariant.1 ∙ first-here _ _ _
+    let e = rw (one_row state_words _ _) at c.before.check-state.ensures in
+    e ∙ sym (c.before.before.before.before.loop.invariant.1 ∙ first_here _ _ _
     c.before.before.before.loop-test.true (λ z. c.if1.true (e ∙ z)))
 
 add-i : tie.Need-overflow-add-i invariant-loop decreases-loop
@@ -70,14 +70,14 @@ loop-less c = search rules
 
 loop-again : tie.Need-loop-preserved invariant-loop decreases-loop
 loop-again c =
-    let e = rw (one-row state_words _ _) at c.before.check-state.ensures in (
+    let e = rw (one_row state_words _ _) at c.before.check-state.ensures in (
       search rules,
       c.before.before.before.before.loop.invariant.1 ∙ first_on _ _ _
           c.before.before.before.loop-test.true (sym e ∙ c.if1.false),
     )
 
 returns-2 : tie.Need-returns-2 invariant-loop decreases-loop
-returns-2 c = sym (c.before.loop.invariant.1 ∙ first-end _ _ _ c.loop-test.false)
+returns-2 c = sym (c.before.loop.invariant.1 ∙ first_end _ _ _ c.loop-test.false)
 
 pub check-each-state-spec : {M : Type 1} → statement M
 check-each-state-spec =

@@ -5,7 +5,7 @@ use native.Mathlib.Omega.{arith}
 use borrow.Author.Tests.{eq-eqb, ne_eqb, lt-ltb}
 use Rattle.machine.specs.Constants.{state_words}
 use Rattle.tables.specs.Machine.{states_refusal}
-use Rattle.tables.proofs.Parts.{beyond, within, more-length}
+use Rattle.tables.proofs.Parts.{beyond, within, more_length}
 use Rattle.tables.proofs.machine_row.check_states.Statement.{statement}
 use Rattle.tables.proofs.machine_row.check_states.Tie as tie
 
@@ -49,7 +49,7 @@ part-check-each-state-end c = search rules
 
 check-each-state-requires : tie.Need-check-each-state-requires
 check-each-state-requires c κs = (
-  more-length state_words c.before.before.before.before.before.before.before.args.states.now
+  more_length state_words c.before.before.before.before.before.before.before.args.states.now
       c.before.before.before.before.before.before.before.args.first
       c.before.before.before.before.before.before.before.args.n
       (omega (arith, c.before.before.if3.false, c.before.if4.false)),

@@ -6,7 +6,7 @@ use Rattle.machine.specs.State.{first_of, count_of}
 use Rattle.rows.specs.First.{first_refusal}
 use Rattle.rows.specs.Row.{pair_refusal}
 use Rattle.tables.specs.State.{events_refusal}
-use Rattle.rows.specs.First.Laws.{first_on, first-here, first-end}
+use Rattle.rows.specs.First.Laws.{first_on, first_here, first_end}
 use Rattle.tables.proofs.state.check_events.Statement.{statement}
 use Rattle.tables.proofs.state.check_events.Tie as tie
 
@@ -27,7 +27,7 @@ check-event-requires c κs = search rules
 
 returns : tie.Need-returns invariant-loop decreases-loop
 returns c =
-    c.before.check-event.ensures ∙ sym (c.before.before.before.loop.invariant.1 ∙ first-here _ _ _
+    c.before.check-event.ensures ∙ sym (c.before.before.before.loop.invariant.1 ∙ first_here _ _ _
     c.before.before.loop-test.true (λ z. c.if1.true (c.before.check-event.ensures ∙ z)))
 
 add-event : tie.Need-overflow-add-event invariant-loop decreases-loop
@@ -44,7 +44,7 @@ loop-again c = (
 )
 
 returns-2 : tie.Need-returns-2 invariant-loop decreases-loop
-returns-2 c = sym (c.before.loop.invariant.1 ∙ first-end _ _ _ c.loop-test.false)
+returns-2 c = sym (c.before.loop.invariant.1 ∙ first_end _ _ _ c.loop-test.false)
 
 pub check-events-spec : {M : Type 1} → statement M
 check-events-spec =
