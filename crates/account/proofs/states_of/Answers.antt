@@ -1,0 +1,6 @@
+-- `states_of` meets its contract: both words that it reads are the row's.
+use borrow.Author.Rules.{rules}
+use Rattle.account.proofs.states_of.Goals as goal
+
+pub returns : goal.returns
+returns c = rw (c.state_rows.ensures, c.word.ensures, c.word-2.ensures)

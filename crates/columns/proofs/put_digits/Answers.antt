@@ -1,0 +1,59 @@
+-- `columns::put_digits` meets its contract: the digits that are left to write, and then what stands, stay the same text.
+use borrow.Author.Rules.{rules}
+use Prim.Native.Nat.{◌-◌, ◌≤◌}
+use mathlib.Core.Logic.{⊎_elim}
+use mathlib.Core.Path.{◌≡◌, refl, ◌∙◌}
+use native.Mathlib.Omega.{arith}
+use lib.ListN.{length, length-set}
+use borrow.Author.Tests.{leb-true, leb-false}
+use Rattle.columns.specs.Parts.{digits_in}
+use Rattle.columns.proofs.Places.{two_more}
+use Rattle.columns.proofs.put_digits.Goals as goal
+
+pub loop-rest-init : goal.loop-rest-init
+loop-rest-init c = (c.requires.0, omega arith, refl, refl)
+
+pub overflow_sub-line : goal.overflow_sub-line
+overflow_sub-line c = omega (arith, leb-true)
+
+pub bounds-line-i : goal.bounds-line-i
+bounds-line-i c = omega (arith, leb-true, c.loop-rest.invariant.2)
+
+pub overflow_sub-line-in-loop-rest : goal.overflow_sub-line-in-loop-rest
+overflow_sub-line-in-loop-rest c = omega (arith, leb-true)
+
+pub bounds-line-i-in-loop-rest : goal.bounds-line-i-in-loop-rest
+bounds-line-i-in-loop-rest c =
+    let inside = c.loop-rest.invariant.2 in
+    simp length-set (omega (arith, leb-true))
+
+pub overflow_sub-i-in-loop-rest : goal.overflow_sub-i-in-loop-rest
+overflow_sub-i-in-loop-rest c = omega (arith, leb-true)
+
+pub loop-rest-smaller : goal.loop-rest-smaller
+loop-rest-smaller c = omega (arith, leb-true)
+
+pub loop-rest-preserved : goal.loop-rest-preserved
+loop-rest-preserved c =
+    let a = c.args in
+    let l = c.loop-rest in
+    let t : 2 ≤ l.i - a.at = leb-true _ _ c.if-i-at-ge2.true in (
+      omega arith,
+      omega (arith, l.invariant.1),
+      simp length-set l.invariant.2,
+      two_more l.line-1 a.at l.rest l.i (omega (arith, l.invariant.1, l.invariant.2)) (omega arith) c.loop-rest-test.true ∙ l.invariant.3,
+    )
+
+pub put_rest-requires : goal.put_rest-requires
+put_rest-requires c =
+    let a = c.args in
+    let l = c.loop-rest in (
+      l.invariant.0,
+      omega (arith, l.invariant.1, l.invariant.2),
+      λ room. ⊎_elim (λ w. absurd (omega (arith, leb-false 2 (l.i - a.at) w.1.left))) (λ w. w.left) c.loop-rest-test.branch,
+    )
+
+pub returns : goal.returns
+returns c =
+    let l = c.loop-rest in
+    c.put_rest.ensures ∙ l.invariant.3

@@ -1,0 +1,37 @@
+-- `update_counters` meets its contract: A, then B. Assumes nothing.
+use mathlib.Core.Path.{sym, ◌∙◌}
+use Rattle.steps.specs.Transition.{tally_a, tally_b, update_counters}
+use Rattle.counters.specs.Counter.{update_one_is}
+use borrow.Author.Rules.{rules}
+use Rattle.counters.proofs.update_counters.Goals as goal
+
+pub returns-in-Refused : goal.returns-in-Refused
+unfolding update_counters tally_a tally_b
+returns-in-Refused c =
+    let x = c.x-1 in
+    let counter-after = c.counter_after-x in
+    let value_after = c.value_after-drawn_a in
+    rw (update_one_is, sym (rw value_after.ensures at counter-after.ensures) ∙ x.given.1)
+
+pub returns-in-Refused-y : goal.returns-in-Refused-y
+unfolding update_counters tally_a tally_b
+returns-in-Refused-y c =
+    let y = c.y-1 in
+    let counter-after2 = c.counter_after-y in
+    let value-after2 = c.value_after-drawn_b in
+    let x2 = c.x-in-NewValue-1 in
+    let counter-after = c.counter_after-x in
+    let value_after = c.value_after-drawn_a in
+    rw (update_one_is, sym (rw value_after.ensures at counter-after.ensures) ∙ x2.given.1, update_one_is, sym (rw value-after2.ensures at counter-after2.ensures) ∙ y.given.1)
+
+pub returns : goal.returns
+unfolding update_counters tally_a tally_b
+returns c =
+    let either = c.either in
+    let y2 = c.y-in-NewValue-y-1 in
+    let counter-after2 = c.counter_after-y in
+    let value-after2 = c.value_after-drawn_b in
+    let x2 = c.x-in-NewValue-1 in
+    let counter-after = c.counter_after-x in
+    let value_after = c.value_after-drawn_a in
+    rw (update_one_is, sym (rw value_after.ensures at counter-after.ensures) ∙ x2.given.1, update_one_is, sym (rw value-after2.ensures at counter-after2.ensures) ∙ y2.given.1, either.ensures)

@@ -1,0 +1,6 @@
+-- `value_of` meets its contract. Assumes nothing.
+use borrow.Author.Rules.{rules}
+use Rattle.dists.proofs.value_of.Goals as goal
+
+pub returns : goal.returns
+returns c = rw c.unit_of.ensures

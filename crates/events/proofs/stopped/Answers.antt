@@ -1,0 +1,6 @@
+-- `stopped` meets its contract.
+use borrow.Author.Rules.{rules}
+use Rattle.events.proofs.stopped.Goals as goal
+
+pub returns : goal.returns
+returns c = rw (c.no_action-none.ensures, c.shared_from-s.ensures)

@@ -1,0 +1,20 @@
+use borrow.Author.Rules.{rules}
+use Prim.Native.Nat.{ℕ, ◌-◌, ◌≤◌}
+use mathlib.Core.Path.{◌≡◌, refl, sym, ◌∙◌}
+use mathlib.Core.List.{List, []}
+use native.Mathlib.Nat.{sub-zero}
+use native.Mathlib.Omega.{arith}
+use Rattle.steps.specs.Framework.{open_run}
+use Rattle.machine.specs.Words.{lent}
+use Rattle.events.specs.Run.{tables}
+use Rattle.framework.proofs.Opens.{Opens, opens_end, opens_on, opens_stop}
+use Rattle.framework.proofs.start.open_machines.Given as goal
+
+abbrev pub invariant-loop-m : goal.invariant-loop-m
+invariant-loop-m l =
+    (l.m ≤ l.count) × (l.f.current_time ≡ l.time) × ((ts : List ℕ) →
+    Opens (open_run (tables l.machines l.states ts) l.max_padding_frac l.max_blocking_frac l.time (lent [] l.values l.words))
+    (tables l.machines l.states ts) (lent [] l.values l.words) l.count l.m l.f l.at)
+
+abbrev pub decreases-loop-m : goal.decreases-loop-m
+decreases-loop-m l = l.count - l.m

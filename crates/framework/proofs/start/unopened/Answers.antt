@@ -1,0 +1,6 @@
+-- `unopened` meets its contract.
+use borrow.Author.Rules.{rules}
+use Rattle.framework.proofs.start.unopened.Goals as goal
+
+pub returns : goal.returns
+returns c = rw c.new_framework-none.ensures

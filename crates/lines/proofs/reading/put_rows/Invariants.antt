@@ -1,0 +1,20 @@
+use Prim.Native.Nat.{◌*◌, ◌-◌, ◌≤◌}
+use mathlib.Core.Path.{◌≡◌, refl, ◌∙◌}
+use mathlib.Core.List.{◌++◌}
+use native.Mathlib.Omega.{arith}
+use lib.ListN.{length, drop}
+use Rattle.machine.specs.Part.{same}
+use Rattle.cells.specs.Cells.{each}
+use Rattle.lines.specs.Lines.{words_of, table_of}
+use Rattle.lines.proofs.Places.{inside, next_at}
+use Rattle.lines.proofs.Filled.{one_row}
+use borrow.Author.Rules.{rules}
+use Rattle.lines.proofs.reading.put_rows.Given as goal
+
+abbrev pub invariant-loop-i : goal.invariant-loop-i
+invariant-loop-i l =
+    (l.i ≤ l.n) × (l.at ≡ l.size * l.i) × (l.row ≡ l.words * l.i) × (length l.table-1 ≡ length l.initial.table_1)
+    × (l.table-1 ≡ each (words_of l.words) l.size l.i l.text ++ drop l.row l.initial.table_1)
+
+abbrev pub decreases-loop-i : goal.decreases-loop-i
+decreases-loop-i l = l.n - l.i

@@ -1,0 +1,21 @@
+-- `lines::writing::put_line` meets its contract: the line is its kind, what is put behind it, and a line feed.
+use mathlib.Core.Path.{◌∙◌}
+use native.Mathlib.Omega.{arith}
+use lib.ListN.{length-set}
+use Rattle.machine.specs.Part.{same}
+use Rattle.lines.proofs.Written.{lined}
+use borrow.Author.Rules.{rules}
+use Rattle.lines.proofs.writing.put_line.Goals as goal
+
+pub shape_of-line : goal.shape_of-line
+shape_of-line c =
+    let p = c.put_number in
+    let q = c.put_numbers in
+    simp length-set (same p.new.0 q.new.0 4 (omega (arith, p.auto.0)) q.auto.0 ∙ p.auto.0)
+
+pub returns : goal.returns
+returns c =
+    let a = c.args in
+    let p = c.put_number in
+    let q = c.put_numbers in
+    lined a.kind a.row.now a.line-1.now q.new.0 (omega arith) p.auto.0 p.ensures q.ensures

@@ -1,0 +1,18 @@
+use borrow.Author.Rules.{rules}
+use Prim.Native.Nat.{◌≤◌, ◌-◌}
+use mathlib.Core.Path.{◌≡◌, refl, sym, ◌∙◌}
+use native.Mathlib.Omega.{arith}
+use lib.ListN.{length}
+use Rattle.machine.specs.State.{target_at}
+use Rattle.rows.specs.Row.{row_refusal}
+use Rattle.rows.proofs.Seen.{Met, met_none, met_on, mark_below, by_mark, passed}
+use Rattle.rows.proofs.Rows.{rest, row_starts, row_on, row_stops, row_ends}
+use Rattle.rows.proofs.check_marked_row.Given as goal
+
+abbrev pub invariant-loop-i : goal.invariant-loop-i
+invariant-loop-i l =
+    (l.first ≤ l.i) × ((l.i ≤ l.end) × ((length l.marks-1 ≡ length l.initial.marks_1) × (Met l.marks-1 l.transitions l.n l.first l.i ×
+    (row_refusal l.transitions l.n l.first (l.end - l.first) ≡ rest l.transitions l.n l.first l.end l.i l.sum))))
+
+abbrev pub decreases-loop-i : goal.decreases-loop-i
+decreases-loop-i l = l.end - l.i

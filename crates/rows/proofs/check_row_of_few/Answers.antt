@@ -1,0 +1,7 @@
+-- `check_row_of_few` meets its contract: its marks are clear, and one for each target. Assumes nothing.
+use borrow.Author.Rules.{rules}
+use Rattle.rows.proofs.Bits.{clear}
+use Rattle.rows.proofs.check_row_of_few.Goals as goal
+
+pub check_marked_row-requires : goal.check_marked_row-requires
+check_marked_row-requires c = (search rules, (search rules, (search rules, (search rules, clear 16))))

@@ -1,0 +1,13 @@
+-- `sheet::reading::put_tables` meets its contract: each table's lines stand where those of the kinds before end.
+use Rattle.sheet.proofs.Formed.{states_at_lem, transitions_at_lem}
+use borrow.Author.Rules.{rules}
+use Rattle.sheet.proofs.reading.put_tables.Goals as goal
+
+pub returns : goal.returns
+returns c =
+    let s = c in
+    let a = s.args in (
+      c.put_rows.ensures,
+      rw (states_at_lem a.sheet.now a.rows s.requires.0) at c.put_rows-2.ensures,
+      rw (transitions_at_lem a.sheet.now a.rows s.requires.0) at c.put_rows-3.ensures,
+    )

@@ -1,0 +1,16 @@
+-- `sheet::writing::put_sheet` meets its contract: the lines of each kind behind those before.
+use mathlib.Core.Path.{sym, ◌∙◌}
+use native.Mathlib.Omega.{arith}
+use Rattle.sheet.proofs.Written.{length-sheet, sheeted}
+use borrow.Author.Rules.{rules}
+use Rattle.sheet.proofs.writing.put_sheet.Goals as goal
+
+pub returns : goal.returns
+returns c =
+    let a = c.args in
+    let M = a.machines.now in
+    let S = a.states.now in
+    let T = a.transitions.now in (
+      sym (length-sheet M S T ∙ omega arith),
+      sheeted M S T a.sheet-1.now _ _ _ c.put_lines.ensures c.put_lines-2.ensures c.put_lines-3.ensures,
+    )

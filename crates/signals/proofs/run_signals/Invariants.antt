@@ -1,0 +1,22 @@
+use borrow.Author.Rules.{rules}
+use Prim.Native.Nat.{◌+◌, ◌*◌, ◌-◌, ◌≤◌, min}
+use mathlib.Core.Path.{◌≡◌, refl, sym, ◌∙◌}
+use native.Mathlib.Omega.{arith}
+use Rattle.machine.specs.Constants.{counter_num}
+use Rattle.machine.specs.Words.{lent}
+use Rattle.steps.specs.Events.{signals}
+use Rattle.events.specs.Run.{tables, run}
+use Rattle.transition.specs.Transition.{at_most}
+use Rattle.signals.proofs.Heard.{known_is, Heard, heard_all, heard_skip, heard_turn, heard_stops}
+use Rattle.signals.proofs.Heard.{heard_last, heard_quiet, heard_dropped, heard_again}
+use Rattle.signals.proofs.run_signals.Given as goal
+
+abbrev pub invariant-loop-m : goal.invariant-loop-m
+invariant-loop-m l =
+    let T = tables l.machines l.states l.transitions in
+    let D = lent l.chances l.values l.words in
+    (l.end ≤ 16) × (l.f.machines ≡ l.fw.machines) × Heard (signals T D (run l.fw l.actions l.s)) T D l.left_out l.m l.end l.f l.a l.t-1
+
+abbrev pub decreases-loop-m : goal.decreases-loop-m
+decreases-loop-m l =
+    min l.left_out 1 * 17 + (l.end - l.m)

@@ -1,0 +1,15 @@
+-- `stream::chance_words` meets its contract: the part lies between its place and the next part's.
+use mathlib.Core.Path.{ap, ◌∙◌}
+use Rattle.stream.specs.declared.Layout.{Layout}
+use Rattle.stream.specs.Stream.{chance_words, values_at}
+use Rattle.stream.proofs.Clip.{cut}
+use borrow.Author.Rules.{rules}
+use Rattle.stream.proofs.chance_words.Goals as goal
+
+pub returns : goal.returns
+unfolding chance_words values_at
+returns c =
+    let ws = c.args.words.now in
+    let l = c.parts-l.ensures.is in
+    c.between.ensures
+    ∙ cut ws _ _ _ _ (ap (λ (p : Layout). p.chances) l) (ap (λ (p : Layout). p.values) l)

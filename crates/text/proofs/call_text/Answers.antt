@@ -1,0 +1,40 @@
+-- `text::call_text` meets its contract: before each turn the text is the call's line, the lines of the rows so far, and
+-- what stood behind them.
+use Prim.Native.Nat.{◌+◌, ◌*◌, ◌-◌, ◌≤◌}
+use mathlib.Core.Path.{◌≡◌, refl, ◌∙◌}
+use native.Mathlib.Omega.{arith}
+use lib.ListN.{length}
+use Rattle.text.proofs.Lines.{Lined, no_row, one_row, all_rows_lem}
+use borrow.Author.Rules.{rules}
+use Rattle.text.proofs.call_text.Goals as goal
+
+pub loop-i-init : goal.loop-i-init
+loop-i-init c =
+    let a = c.args in
+    (omega arith, refl, refl, no_row a.call a.refusal a.actions a.rows.now a.out-1.now _ c.call_line.ensures)
+
+pub loop-i-preserved : goal.loop-i-preserved
+loop-i-preserved c =
+    let l = c.loop-i in
+    let a = c.args in
+    let r = c.put_row in (
+      omega arith,
+      omega arith,
+      r.auto.0 ∙ l.invariant.2,
+      one_row a.call a.refusal a.actions a.rows.now _ l.out-1 _ l.at l.i l.invariant.3 r.ensures,
+    )
+
+pub shape_of-out : goal.shape_of-out
+shape_of-out c = c.loop-i.invariant.2 ∙ c.call_line.auto.0
+
+pub returns : goal.returns
+returns c =
+    let a = c.args in
+    let l = c.loop-i in
+    let e : l.i ≡ a.actions = omega arith in (
+      omega arith,
+      all_rows_lem a.call a.refusal a.actions a.rows.now a.out-1.now _ c.call_line.ensures l.out-1 l.at l.i
+          (omega arith)
+          e
+          l.invariant.3,
+    )

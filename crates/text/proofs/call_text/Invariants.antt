@@ -1,0 +1,15 @@
+use Prim.Native.Nat.{◌+◌, ◌*◌, ◌-◌, ◌≤◌}
+use mathlib.Core.Path.{◌≡◌, refl, ◌∙◌}
+use native.Mathlib.Omega.{arith}
+use lib.ListN.{length}
+use Rattle.text.proofs.Lines.{Lined, no_row, one_row, all_rows_lem}
+use borrow.Author.Rules.{rules}
+use Rattle.text.proofs.call_text.Given as goal
+
+abbrev pub invariant-loop-i : goal.invariant-loop-i
+invariant-loop-i l =
+    (l.i ≤ l.actions) × (l.at ≡ 15 + 41 * l.i) × (length l.out-1 ≡ length l.initial.out_1)
+    × Lined l.call l.refusal l.actions l.rows l.initial.out_1 l.i l.at l.out-1
+
+abbrev pub decreases-loop-i : goal.decreases-loop-i
+decreases-loop-i l = l.actions - l.i

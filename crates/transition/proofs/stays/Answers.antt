@@ -1,0 +1,7 @@
+-- `stays` meets its contract. Assumes nothing.
+use borrow.Author.Rules.{rules}
+use Rattle.transition.proofs.stays.Goals as goal
+
+pub returns : goal.returns
+returns c =
+    rw c.if-changed.false
