@@ -124,17 +124,27 @@ class Turn:
         if goal and self.way(goal):
             near = self.names(self.way(goal))
             steps, arms, labels = {**steps, **near[0]}, near[1] + arms, {**labels, **near[2]}
-        text = re.sub(r"(?<=[\w'₀-₉])(?:\.before)+(?![\w-])", "", text)
-        for old, path, new in arms:
-            tail = r"\." + r"\.".join(re.escape(it) for it in path) + r"(?![\w-])"
-            spelt = r"[-_]".join(re.escape(it) for it in re.split("[-_]", old))
-            text = re.sub(r"\." + spelt + tail, lambda m: ".\0" + new, text)
+        roots = {"c"}
+        for name, of in re.findall(r"let (\S+) = ([\w'-]+)(?:\.before)* in", text):
+            if of in roots:
+                roots.add(name)
 
-        def step(m):
-            new = steps.get(plain(m.group(1))) or steps.get(plain(re.sub("_lem$", "", m.group(1))))
-            return "." + (new if new else m.group(1))
+        def way(m):
+            root, rest = m.group(1), re.sub(r"(?:\.before)+(?![\w-])", "", m.group(2))
+            if root not in roots and rest == m.group(2):
+                return m.group(0)
+            for old, path, new in arms:
+                spelt = r"[-_]".join(re.escape(it) for it in re.split("[-_]", old))
+                found = re.match(r"\." + spelt + r"\." + r"\.".join(re.escape(it) for it in path) + r"(?![\w-])", rest)
+                if found:
+                    return root + "." + new + rest[found.end():]
+            first = re.match(r"\.([\w'₀-₉-]+)", rest)
+            if not first:
+                return root + rest
+            new = steps.get(plain(first.group(1))) or steps.get(plain(re.sub("_lem$", "", first.group(1))))
+            return root + ("." + new if new else first.group(0)) + rest[first.end():]
 
-        text = re.sub(r"\.(?!\0)([A-Za-z][\w'₀-₉-]*)", step, text).replace("\0", "")
+        text = re.sub(r"(?<![\w.'₀-₉-])([A-Za-z_][\w'₀-₉-]*)((?:\.[\w'₀-₉-]+)+)", way, text)
         text = re.sub(r"(\.(?:args|new|ranges|initial|fn)\.)([\w-]+)", lambda m: m.group(1) + m.group(2).replace("-", "_"), text)
         for name, fields in labels.items():
             text = re.sub(re.escape("." + name + ".ensures.") + r"(\d)(?![\w])", lambda m: f".{name}.ensures.{fields[int(m.group(1))]}", text)
@@ -228,7 +238,6 @@ def turn(crate, folder, rel, entry):
                 return "l." + w.replace("-", "_")
 
             value = re.sub(r"(?<![\w.'-])" + r"[A-Za-z_][\w'₀-]*", var, value)
-            value = t.path(value)
             invs.append((comment + "\n" if comment else "") + f"abbrev pub {new} : goal.{new}\n{new} l ={value}")
             continue
         position += 1

@@ -41,7 +41,7 @@ loop-rest-preserved c =
       omega arith,
       omega (arith, l.invariant.1),
       simp length-set l.invariant.2,
-      two_more l.line-1 a.at l.rest l.i (omega (arith, l.invariant.1, l.invariant.2)) (omega arith) c.loop-rest-test.true ∙ l.invariant.3,
+      two_more l.line a.at l.rest l.i (omega (arith, l.invariant.1, l.invariant.2)) (omega arith) c.loop-rest-test.true ∙ l.invariant.3,
     )
 
 pub put_rest-requires : goal.put_rest-requires

@@ -11,7 +11,7 @@ use Rattle.columns.proofs.put_digits.Given as goal
 
 abbrev pub invariant-loop-rest : goal.invariant-loop-rest
 invariant-loop-rest l =
-    (l.at ≤ l.i) × (l.i ≤ l.end) × (length l.line-1 ≡ length l.initial.line_1) × (digits_in l.at l.i l.rest l.line-1 ≡ digits_in l.at l.end l.n l.initial.line_1)
+    (l.at ≤ l.i) × (l.i ≤ l.end) × (length l.line ≡ length l.initial.line) × (digits_in l.at l.i l.rest l.line ≡ digits_in l.at l.end l.n l.initial.line)
 
 abbrev pub decreases-loop-rest : goal.decreases-loop-rest
 decreases-loop-rest l = l.i

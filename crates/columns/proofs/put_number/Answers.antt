@@ -13,4 +13,4 @@ returns c =
     let a = s.args in
     c.put_digits.ensures
     ∙ ap (λ (l : List ℕ). digits_in a.at (a.at + a.width) a.n l) s.put_spaces.ensures
-    ∙ over_spaces a.line-1.now a.at a.width a.n s.requires
+    ∙ over_spaces a.line.now a.at a.width a.n s.requires

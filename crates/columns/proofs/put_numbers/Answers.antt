@@ -10,13 +10,13 @@ use Rattle.columns.proofs.put_numbers.Goals as goal
 pub loop-i-init : goal.loop-i-init
 loop-i-init c =
     let a = c.args in
-    (omega arith, refl, no_number a.width a.numbers.now a.line-1.now)
+    (omega arith, refl, no_number a.width a.numbers.now a.line.now)
 
 pub put_number-requires : goal.put_number-requires
 put_number-requires c =
     let s = c in
     let l = c.loop-i in
-    room s.args.width s.args.numbers.now s.args.line_1.now l.line-1 l.at l.i (omega arith) (omega arith) l.invariant.2
+    room s.args.width s.args.numbers.now s.args.line.now l.line l.at l.i (omega arith) (omega arith) l.invariant.2
 
 pub overflow_add-at : goal.overflow_add-at
 overflow_add-at c =
@@ -24,7 +24,7 @@ overflow_add-at c =
     let l = c.loop-i in
     search (
       rules,
-      room s.args.width s.args.numbers.now s.args.line_1.now l.line-1 l.at l.i (omega arith) (omega arith) l.invariant.2,
+      room s.args.width s.args.numbers.now s.args.line.now l.line l.at l.i (omega arith) (omega arith) l.invariant.2,
     )
 
 pub loop-i-preserved : goal.loop-i-preserved
@@ -34,7 +34,7 @@ loop-i-preserved c =
     let p = c.put_number in (
       omega arith,
       p.auto.0 ∙ l.invariant.1,
-      one_number a.width a.numbers.now a.line-1.now l.line-1 p.new.0 l.at l.i (omega arith) l.invariant.2 p.ensures,
+      one_number a.width a.numbers.now a.line.now l.line p.new.0 l.at l.i (omega arith) l.invariant.2 p.ensures,
     )
 
 pub shape_of-line : goal.shape_of-line
@@ -44,4 +44,4 @@ pub returns : goal.returns
 returns c =
     let a = c.args in
     let l = c.loop-i in
-    all_numbers a.width a.numbers.now a.line-1.now l.line-1 l.at l.i (omega arith) l.invariant.2
+    all_numbers a.width a.numbers.now a.line.now l.line l.at l.i (omega arith) l.invariant.2

@@ -6,4 +6,4 @@ use Rattle.columns_link.proofs.columns_put.Goals as goal
 pub returns-then-width-eq0 : goal.returns-then-width-eq0
 returns-then-width-eq0 c =
     let a = c.args in
-    none a.width a.numbers.now a.text-1.now c.if-width-eq0.true
+    none a.width a.numbers.now a.text.now c.if-width-eq0.true

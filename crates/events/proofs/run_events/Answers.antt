@@ -264,7 +264,7 @@ returns-in-Refused-x c =
     let if1 = c.if-m-end in
     let loop = c.loop-m in record {
       is = stopped2.ensures ∙ sym (ap (ran_from _) (ahead_refused loop.invariant.4 (λ _ _ _. refl) if1.true (sym (rw (states-of.ensures, event-of.ensures) at choose.ensures) ∙ choice2.given.1)
-          (sym (rw (limit-falls.ensures, going.ensures counter_num (at_most loop.s-1), states-of.ensures, context-of.ensures, counted-by.ensures) at after-transition.ensures) ∙ x.given.1)));
+          (sym (rw (limit-falls.ensures, going.ensures counter_num (at_most loop.s), states-of.ensures, context-of.ensures, counted-by.ensures) at after-transition.ensures) ∙ x.given.1)));
       keeps = ap (λ (r : Ran). r.framework.machines) stopped2.ensures;
     }
 
@@ -322,7 +322,7 @@ loop-m-preserved-in-Done c =
       λ h. loop.invariant.2 if1.true,
       loop.invariant.3,
       ahead_done loop.invariant.4 (λ _ _ _. refl) if1.true (sym (rw (states-of.ensures, event-of.ensures) at choose.ensures) ∙ choice2.given.1)
-          (sym (rw (limit-falls.ensures, going.ensures counter_num (at_most loop.s-1), states-of.ensures, context-of.ensures, counted-by.ensures) at after-transition.ensures) ∙ x2.given.1),
+          (sym (rw (limit-falls.ensures, going.ensures counter_num (at_most loop.s), states-of.ensures, context-of.ensures, counted-by.ensures) at after-transition.ensures) ∙ x2.given.1),
     )
 
 pub returns-then-n-i : goal.returns-then-n-i

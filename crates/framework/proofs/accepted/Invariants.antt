@@ -7,7 +7,7 @@ use Rattle.framework.proofs.Ended.{one_more, at_most}
 use Rattle.framework.proofs.accepted.Given as goal
 
 abbrev pub invariant-loop-m : goal.invariant-loop-m
-invariant-loop-m l = (l.m ≤ l.count) × (l.count ≤ 16) × (l.ended ≡ ended_in l.f-1.runtime l.m)
+invariant-loop-m l = (l.m ≤ l.count) × (l.count ≤ 16) × (l.ended ≡ ended_in l.f.runtime l.m)
 
 abbrev pub decreases-loop-m : goal.decreases-loop-m
 decreases-loop-m l = l.count - l.m

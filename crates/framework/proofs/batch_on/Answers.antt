@@ -69,7 +69,7 @@ refusal_is : (c : lts.After-batch-refusal (
 ) reads.Pre reads.Post invariant-loop decreases-loop)
     → let args = c.args in
     c.batch_refusal-refusal.result
-    ≡ refusal_on args.raw args.t1 (tables args.machines.now args.states.now args.transitions.now) args.events.now args.out-1.now
+    ≡ refusal_on args.raw args.t1 (tables args.machines.now args.states.now args.transitions.now) args.events.now args.out.now
 refusal_is c =
     let fits-tables = c.fits_tables-fits in
     let loop-test = c.loop-m-test in
@@ -77,7 +77,7 @@ refusal_is c =
     let smaller = c.smaller-count in
     let args = c.args in
     let all : loop.m ≡ smaller.result = omega (arith, loop.invariant.0, loop-test.false) in
-    c.batch_refusal-refusal.ensures args.t1 args.out-1.now
+    c.batch_refusal-refusal.ensures args.t1 args.out.now
     (λ z. fits-tables.ensures ∙ fits_is _ _ _ _ _ (all ∙ smaller.ensures) loop.invariant.2 loop.invariant.3 z) refl
 
 pub returns-then-refusal-ne0 : goal.returns-then-refusal-ne0
@@ -87,15 +87,15 @@ returns-then-refusal-ne0 c =
     let args = c.args in
     let T = tables args.machines.now args.states.now args.transitions.now in
     let D = lent args.chances.now args.values.now args.words.now in
-    rw (refused_on args.raw T args.t1 args.events.now args.out-1.now args.time D (λ z. if1.true (is ∙ z)))
-    (rw is at (c.refused.ensures args.out-1.now), refl)
+    rw (refused_on args.raw T args.t1 args.events.now args.out.now args.time D (λ z. if1.true (is ∙ z)))
+    (rw is at (c.refused.ensures args.out.now), refl)
 
 pub trigger_events-ran-requires : goal.trigger_events-ran-requires
 trigger_events-ran-requires c =
     let args = c.args in
     let T = tables args.machines.now args.states.now args.transitions.now in
     let none = sym (refusal_is c) ∙ c.if-refusal-ne0.false in
-    (batch_passes _ _ _ _ (passed_on args.raw T args.t1 args.events.now args.out-1.now none).1).0
+    (batch_passes _ _ _ _ (passed_on args.raw T args.t1 args.events.now args.out.now none).1).0
 
 pub accepted-requires : goal.accepted-requires
 accepted-requires c =
@@ -104,7 +104,7 @@ accepted-requires c =
     let none = sym (refusal_is c) ∙ if1.false in
     let args = c.args in
     let T = tables args.machines.now args.states.now args.transitions.now in
-    let passed = passed_on args.raw T args.t1 args.events.now args.out-1.now none in
+    let passed = passed_on args.raw T args.t1 args.events.now args.out.now none in
     rw trigger-events.ensures.1 (batch_passes _ _ _ _ passed.1).1
 
 pub returns-in-Refused : goal.returns-in-Refused
@@ -120,8 +120,8 @@ returns-in-Refused c =
     let stops = stopped_is (entered args.t1) (trigger_events T D args.time es args.t1) _ _
     trigger-events.ensures.0 verdict.given.1 in
     let none = sym (refusal_is c) ∙ if1.false in
-    let passed = passed_on args.raw T args.t1 es args.out-1.now none in
-    rw (passed.0, eq-eqb _ _ passed.1, stops) (c.refused-in-Refused.ensures args.out-1.now, refl)
+    let passed = passed_on args.raw T args.t1 es args.out.now none in
+    rw (passed.0, eq-eqb _ _ passed.1, stops) (c.refused-in-Refused.ensures args.out.now, refl)
 
 pub returns-in-Complete : goal.returns-in-Complete
 unfolding batch
@@ -137,5 +137,5 @@ returns-in-Complete c =
     let ends = complete_is (entered args.t1) (trigger_events T D args.time es args.t1) _
     trigger-events.ensures.0 enum_told.given.1 in
     let none = sym (refusal_is c) ∙ if1.false in
-    let passed = passed_on args.raw T args.t1 es args.out-1.now none in
+    let passed = passed_on args.raw T args.t1 es args.out.now none in
     rw (passed.0, eq-eqb _ _ passed.1, ends) accepted.ensures

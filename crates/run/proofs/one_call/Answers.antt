@@ -48,7 +48,7 @@ returns c =
     let a : b.result ≡ (batch_at ws s).answer = b.ensures.0 ∙ ap (λ (x : Batch). x.answer) e in
     let t = c.call_text-bytes in
     let o = b.ensures.1 ∙ ap (λ (x : Batch). x.out) e in
-    let p = prints ws s p4.args.i b.result _ _ p4.args.line_1.now t.result a o t.ensures.0 t.ensures.1 in (
+    let p = prints ws s p4.args.i b.result _ _ p4.args.line.now t.result a o t.ensures.0 t.ensures.1 in (
       rw (c.further.ensures.is, c.further-2.ensures.is)
           (stood ws s b.result call.result ch vs a call.ensures p4.requires.5 p4.requires.6),
       (

@@ -81,7 +81,7 @@ returns-in-Refused c =
     let if1 = c.if-m-end in
     let loop = c.loop-m in record {
       is = rw (heard_stops loop.invariant.2 if1.true if2.false
-          (sym (rw (states-of.ensures, context-of.ensures) at (transition.ensures counter_num (at_most loop.t-1)))
+          (sym (rw (states-of.ensures, context-of.ensures) at (transition.ensures counter_num (at_most loop.t)))
           ∙ x.given.1));
       keeps = refl;
     }
@@ -133,7 +133,7 @@ loop-m-preserved-then-m-end c =
       loop.invariant.0,
       loop.invariant.1,
       heard_turn loop.invariant.2 if1.true if2.false
-          (sym (rw (states-of.ensures, context-of.ensures) at (transition.ensures counter_num (at_most loop.t-1)))
+          (sym (rw (states-of.ensures, context-of.ensures) at (transition.ensures counter_num (at_most loop.t)))
           ∙ x2.given.1),
     )
 

@@ -15,7 +15,7 @@ abbrev pub invariant-loop-m : goal.invariant-loop-m
 invariant-loop-m l =
     let T = tables l.machines l.states l.transitions in
     let D = lent l.chances l.values l.words in
-    (l.end ≤ 16) × (l.f.machines ≡ l.fw.machines) × Heard (signals T D (run l.fw l.actions l.s)) T D l.left_out l.m l.end l.f l.a l.t-1
+    (l.end ≤ 16) × (l.f.machines ≡ l.fw.machines) × Heard (signals T D (run l.fw l.actions l.s)) T D l.left_out l.m l.end l.f l.a l.t
 
 abbrev pub decreases-loop-m : goal.decreases-loop-m
 decreases-loop-m l =

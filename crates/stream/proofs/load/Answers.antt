@@ -10,7 +10,7 @@ pub returns-then-size_refusal-ne0 : goal.returns-then-size_refusal-ne0
 returns-then-size_refusal-ne0 c =
     let a = c.args in
     let e = c.size_refusal.ensures in
-    size_refused a.bytes.now a.words-1.now (λ z. c.if-size_refusal-ne0.true (e ∙ z))
+    size_refused a.bytes.now a.words.now (λ z. c.if-size_refusal-ne0.true (e ∙ z))
 
 pub put_words-requires : goal.put_words-requires
 put_words-requires c =
@@ -35,4 +35,4 @@ returns c =
     let p3 = p2 in
     let p4 = p3 in
     let z = sym p3.size_refusal.ensures ∙ p2.if-size_refusal-ne0.false in
-    size_taken p4.args.bytes.now p4.args.words_1.now _ _ z p2.put_words.ensures c.check.ensures
+    size_taken p4.args.bytes.now p4.args.words.now _ _ z p2.put_words.ensures c.check.ensures

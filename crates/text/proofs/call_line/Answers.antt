@@ -11,7 +11,7 @@ shape_of-line c = simp length-set (c.put_number-3.auto.0 ∙ c.put_number-2.auto
 pub returns : goal.returns
 returns c =
     let s = c in
-    call_lined s.args.line_1.now s.args.call s.args.refusal s.args.actions s.requires
+    call_lined s.args.line.now s.args.call s.args.refusal s.args.actions s.requires
     c.put_number.ensures
     c.put_number-2.ensures
     c.put_number-3.ensures

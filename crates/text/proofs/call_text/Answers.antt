@@ -11,7 +11,7 @@ use Rattle.text.proofs.call_text.Goals as goal
 pub loop-i-init : goal.loop-i-init
 loop-i-init c =
     let a = c.args in
-    (omega arith, refl, refl, no_row a.call a.refusal a.actions a.rows.now a.out-1.now _ c.call_line.ensures)
+    (omega arith, refl, refl, no_row a.call a.refusal a.actions a.rows.now a.out.now _ c.call_line.ensures)
 
 pub loop-i-preserved : goal.loop-i-preserved
 loop-i-preserved c =
@@ -21,7 +21,7 @@ loop-i-preserved c =
       omega arith,
       omega arith,
       r.auto.0 ∙ l.invariant.2,
-      one_row a.call a.refusal a.actions a.rows.now _ l.out-1 _ l.at l.i l.invariant.3 r.ensures,
+      one_row a.call a.refusal a.actions a.rows.now _ l.out _ l.at l.i l.invariant.3 r.ensures,
     )
 
 pub shape_of-out : goal.shape_of-out
@@ -33,7 +33,7 @@ returns c =
     let l = c.loop-i in
     let e : l.i ≡ a.actions = omega arith in (
       omega arith,
-      all_rows_lem a.call a.refusal a.actions a.rows.now a.out-1.now _ c.call_line.ensures l.out-1 l.at l.i
+      all_rows_lem a.call a.refusal a.actions a.rows.now a.out.now _ c.call_line.ensures l.out l.at l.i
           (omega arith)
           e
           l.invariant.3,

@@ -25,7 +25,7 @@ returns c =
     let p2 = p3 in
     let p1 = p2 in
     let s = p1 in
-    row_lined s.args.line_1.now s.args.row.now s.requires.0
+    row_lined s.args.line.now s.args.row.now s.requires.0
     p1.put_number.ensures
     p2.put_number-2.ensures
     p3.put_number-3.ensures

@@ -42,12 +42,12 @@ loop-m-preserved c =
     let pre = c₁.requires in
     let a = args.t1 in
     let m = loop.m in
-    let fits : loop.at ≤ length loop.out-1 = omega (arith, loop-test.true, loop.invariant.2, loop.invariant.3, pre.1) in (
+    let fits : loop.at ≤ length loop.out = omega (arith, loop-test.true, loop.invariant.2, loop.invariant.3, pre.1) in (
       omega (arith, loop-test.true),
       omega (arith, put-row.ensures.0, rows_longer a m, loop.invariant.1),
       omega (arith, put-row.ensures.0, row_short m (get_or a m no_action), loop.invariant.2),
-      same loop.out-1 put-row.new.0 loop.at fits put-row.auto.0 ∙ loop.invariant.3,
-      row_written a m args.out-1.now loop.out-1 put-row.new.0 loop.at loop.invariant.1 loop.invariant.4
+      same loop.out put-row.new.0 loop.at fits put-row.auto.0 ∙ loop.invariant.3,
+      row_written a m args.out.now loop.out put-row.new.0 loop.at loop.invariant.1 loop.invariant.4
           put-row.ensures.1,
     )
 
@@ -60,5 +60,5 @@ returns c =
     let args = c.args in
     let e : loop.m ≡ args.count = omega arith in (
       ap (λ (n : ℕ). n / 6) (loop.invariant.1 ∙ ap (λ (n : ℕ). length (action_rows args.t1 n)) e),
-      loop.invariant.4 ∙ ap (λ (n : ℕ). written (action_rows args.t1 n) args.out-1.now) e,
+      loop.invariant.4 ∙ ap (λ (n : ℕ). written (action_rows args.t1 n) args.out.now) e,
     )

@@ -11,7 +11,7 @@ use Rattle.framework.proofs.rows.put_rows.Given as goal
 abbrev pub invariant-loop-m : goal.invariant-loop-m
 invariant-loop-m l =
     (l.m ≤ l.count) × (l.at ≡ length (action_rows l.actions l.m)) × (l.at ≤ 6 * l.m) ×
-    (length l.out-1 ≡ length l.initial.out_1) × (l.out-1 ≡ written (action_rows l.actions l.m) l.initial.out_1)
+    (length l.out ≡ length l.initial.out) × (l.out ≡ written (action_rows l.actions l.m) l.initial.out)
 
 abbrev pub decreases-loop-m : goal.decreases-loop-m
 decreases-loop-m l = l.count - l.m

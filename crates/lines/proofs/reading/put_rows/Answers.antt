@@ -37,7 +37,7 @@ offset_bounds-table-row c =
     let s = c in
     let a = s.args in
     let l = c.loop-i in
-    let row = inside a.words l.i a.n (length a.table-1.now) l.row l.invariant.2 (omega arith) s.requires.2 in
+    let row = inside a.words l.i a.n (length a.table.now) l.row l.invariant.2 (omega arith) s.requires.2 in
     search rules
 
 pub slice_bounds-put_words-count-in-loop-i : goal.slice_bounds-put_words-count-in-loop-i
@@ -45,7 +45,7 @@ slice_bounds-put_words-count-in-loop-i c =
     let s = c in
     let a = s.args in
     let l = c.loop-i in
-    let row = inside a.words l.i a.n (length a.table-1.now) l.row l.invariant.2 (omega arith) s.requires.2 in
+    let row = inside a.words l.i a.n (length a.table.now) l.row l.invariant.2 (omega arith) s.requires.2 in
     search rules
 
 pub slice_bounds-put_words-start-in-loop-i : goal.slice_bounds-put_words-start-in-loop-i
@@ -53,7 +53,7 @@ slice_bounds-put_words-start-in-loop-i c =
     let s = c in
     let a = s.args in
     let l = c.loop-i in
-    let row = inside a.words l.i a.n (length a.table-1.now) l.row l.invariant.2 (omega arith) s.requires.2 in
+    let row = inside a.words l.i a.n (length a.table.now) l.row l.invariant.2 (omega arith) s.requires.2 in
     search rules
 
 pub put_words-requires : goal.put_words-requires
@@ -62,7 +62,7 @@ put_words-requires c =
     let a = s.args in
     let l = c.loop-i in
     let line = inside a.size l.i a.n (length a.text.now) l.at l.invariant.1 (omega arith) s.requires.1 in
-    let row = inside a.words l.i a.n (length a.table-1.now) l.row l.invariant.2 (omega arith) s.requires.2 in
+    let row = inside a.words l.i a.n (length a.table.now) l.row l.invariant.2 (omega arith) s.requires.2 in
     search rules
 
 pub overflow_add-row : goal.overflow_add-row
@@ -70,7 +70,7 @@ overflow_add-row c =
     let s = c in
     let a = s.args in
     let l = c.loop-i in
-    let row = inside a.words l.i a.n (length a.table-1.now) l.row l.invariant.2 (omega arith) s.requires.2 in
+    let row = inside a.words l.i a.n (length a.table.now) l.row l.invariant.2 (omega arith) s.requires.2 in
     search rules
 
 pub loop-i-preserved : goal.loop-i-preserved
@@ -79,13 +79,13 @@ loop-i-preserved c =
     let a = s.args in
     let l = c.loop-i in
     let line = inside a.size l.i a.n (length a.text.now) l.at l.invariant.1 (omega arith) s.requires.1 in
-    let row = inside a.words l.i a.n (length a.table-1.now) l.row l.invariant.2 (omega arith) s.requires.2 in
+    let row = inside a.words l.i a.n (length a.table.now) l.row l.invariant.2 (omega arith) s.requires.2 in
     let r = c.put_words in (
       omega arith,
       next_at a.size l.i l.at l.invariant.1,
       next_at a.words l.i l.row l.invariant.2,
-      same l.table-1 r.new.1.1.0 l.row (omega arith) r.auto.1.1.0 ∙ l.invariant.3,
-      one_row a.text.now a.words a.size l.i s.requires.0 a.table-1.now l.table-1 r.new.1.1.0 l.at _ l.row l.invariant.1 l.invariant.2 refl line l.invariant.4 r.ensures,
+      same l.table r.new.1.1.0 l.row (omega arith) r.auto.1.1.0 ∙ l.invariant.3,
+      one_row a.text.now a.words a.size l.i s.requires.0 a.table.now l.table r.new.1.1.0 l.at _ l.row l.invariant.1 l.invariant.2 refl line l.invariant.4 r.ensures,
     )
 
 pub shape_of-table : goal.shape_of-table

@@ -13,8 +13,8 @@ use Rattle.lines.proofs.reading.put_rows.Given as goal
 
 abbrev pub invariant-loop-i : goal.invariant-loop-i
 invariant-loop-i l =
-    (l.i ≤ l.n) × (l.at ≡ l.size * l.i) × (l.row ≡ l.words * l.i) × (length l.table-1 ≡ length l.initial.table_1)
-    × (l.table-1 ≡ each (words_of l.words) l.size l.i l.text ++ drop l.row l.initial.table_1)
+    (l.i ≤ l.n) × (l.at ≡ l.size * l.i) × (l.row ≡ l.words * l.i) × (length l.table ≡ length l.initial.table)
+    × (l.table ≡ each (words_of l.words) l.size l.i l.text ++ drop l.row l.initial.table)
 
 abbrev pub decreases-loop-i : goal.decreases-loop-i
 decreases-loop-i l = l.n - l.i

@@ -18,4 +18,4 @@ returns c =
     let a = c.args in
     let p = c.put_number in
     let q = c.put_numbers in
-    lined a.kind a.row.now a.line-1.now q.new.0 (omega arith) p.auto.0 p.ensures q.ensures
+    lined a.kind a.row.now a.line.now q.new.0 (omega arith) p.auto.0 p.ensures q.ensures

@@ -14,7 +14,7 @@ use Rattle.lines.proofs.writing.put_lines.Goals as goal
 pub loop-i-init : goal.loop-i-init
 loop-i-init c =
     let a = c.args in
-    (omega arith, sym (mul-zero a.words), sym (mul-zero a.size), refl, no_line a.kind a.words a.table.now a.sheet-1.now)
+    (omega arith, sym (mul-zero a.words), sym (mul-zero a.size), refl, no_line a.kind a.words a.table.now a.sheet.now)
 
 pub overflow_add-end : goal.overflow_add-end
 overflow_add-end c =
@@ -61,8 +61,8 @@ loop-i-preserved c =
       omega arith,
       rw (add-one, mul-suc) (omega arith),
       rw (add-one, mul-suc) (omega arith),
-      same l.sheet-1 p.new.1.1.0 l.at (omega arith) p.auto.1.1.0 ∙ l.invariant.3,
-      one_line a.kind a.words a.table.now a.sheet-1.now l.sheet-1 p.new.1.1.0 l.row a.size l.at l.i
+      same l.sheet p.new.1.1.0 l.at (omega arith) p.auto.1.1.0 ∙ l.invariant.3,
+      one_line a.kind a.words a.table.now a.sheet.now l.sheet p.new.1.1.0 l.row a.size l.at l.i
           l.invariant.1
           (omega arith)
           (omega arith)
@@ -77,4 +77,4 @@ pub returns : goal.returns
 returns c =
     let a = c.args in
     let l = c.loop-i in
-    all_lines a.kind a.words a.table.now a.sheet-1.now l.sheet-1 a.size l.at l.i a.n (omega arith) l.invariant.2 l.invariant.4
+    all_lines a.kind a.words a.table.now a.sheet.now l.sheet a.size l.at l.i a.n (omega arith) l.invariant.2 l.invariant.4

@@ -12,7 +12,7 @@ use Rattle.lines.proofs.writing.put_lines.Given as goal
 
 abbrev pub invariant-loop-i : goal.invariant-loop-i
 invariant-loop-i l =
-    (l.i ≤ l.n) × (l.row ≡ l.words * l.i) × (l.at ≡ l.size * l.i) × (length l.sheet-1 ≡ length l.initial.sheet_1) × Lines l.kind l.words l.table l.initial.sheet_1 l.i l.at l.sheet-1
+    (l.i ≤ l.n) × (l.row ≡ l.words * l.i) × (l.at ≡ l.size * l.i) × (length l.sheet ≡ length l.initial.sheet) × Lines l.kind l.words l.table l.initial.sheet l.i l.at l.sheet
 
 abbrev pub decreases-loop-i : goal.decreases-loop-i
 decreases-loop-i l = l.n - l.i

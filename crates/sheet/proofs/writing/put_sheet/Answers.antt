@@ -12,5 +12,5 @@ returns c =
     let S = a.states.now in
     let T = a.transitions.now in (
       sym (length-sheet M S T ∙ omega arith),
-      sheeted M S T a.sheet-1.now _ _ _ c.put_lines.ensures c.put_lines-2.ensures c.put_lines-3.ensures,
+      sheeted M S T a.sheet.now _ _ _ c.put_lines.ensures c.put_lines-2.ensures c.put_lines-3.ensures,
     )
