@@ -9,6 +9,7 @@ use borrow.Author.Tests.{leb-true, leb-false}
 use Rattle.columns.specs.Parts.{digits_in}
 use Rattle.columns.proofs.Places.{two_more}
 use Rattle.columns.proofs.put_digits.Goals as goal
+use Rattle.columns.proofs.put_digits.Goals.{then-loop-rest-test+else-i-at-ge2, else-loop-rest-test}
 
 pub loop-rest-init : goal.loop-rest-init
 loop-rest-init c = (c.requires.0, omega arith, refl, refl)
@@ -37,7 +38,7 @@ pub loop-rest-preserved : goal.loop-rest-preserved
 loop-rest-preserved c =
     let a = c.args in
     let l = c.loop-rest in
-    let t : 2 ≤ l.i - a.at = leb-true _ _ c.if-i-at-ge2.true in (
+    let t : 2 ≤ l.i - a.at = c.if-i-at-ge2.true in (
       omega arith,
       omega (arith, l.invariant.1),
       simp length-set l.invariant.2,
@@ -50,7 +51,7 @@ put_rest-requires c =
     let l = c.loop-rest in (
       l.invariant.0,
       omega (arith, l.invariant.1, l.invariant.2),
-      λ room. ⊎_elim (λ w. absurd (omega (arith, leb-false 2 (l.i - a.at) w.1.left))) (λ w. w.left) c.loop-rest-test.branch,
+      λ room. elim c.loop-rest-test.branch [ then-loop-rest-test+else-i-at-ge2 w ↦ omega arith | else-loop-rest-test w ↦ w.loop-rest-test.false ],
     )
 
 pub returns : goal.returns

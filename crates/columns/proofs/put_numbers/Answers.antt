@@ -33,8 +33,8 @@ loop-i-preserved c =
     let l = c.loop-i in
     let p = c.put_number in (
       omega arith,
-      p.auto.0 ∙ l.invariant.1,
-      one_number a.width a.numbers.now a.line.now l.line p.new.0 l.at l.i (omega arith) l.invariant.2 p.ensures,
+      p.auto.line ∙ l.invariant.1,
+      one_number a.width a.numbers.now a.line.now l.line p.new.line l.at l.i (omega arith) l.invariant.2 p.ensures,
     )
 
 pub shape_of-line : goal.shape_of-line
