@@ -4,7 +4,7 @@
 mod handing;
 
 ghost use Rattle.std.specs.Prelude.{◌≡◌, [], ◌≤◌, length, drop};
-ghost use Rattle.text.specs.Words.{chances as chancesOf, values as values_of};
+ghost use Rattle.text.specs.Words.{chances as chances_of, values as values_of};
 ghost use Rattle.stream.specs.Stream.{check_of, call_count, calls_at, chance_words, value_words};
 ghost use Rattle.run.specs.Run.{calls_text, input_text, run_text};
 
@@ -22,7 +22,7 @@ fn calls(
     line: Handed,
 ) -> Handed
     requires { (check_of words.now ≡ 0) × (length words.now ≤ 8192)
-        × (chances.now ≡ chancesOf (chance_words words.now)) × (values.now ≡ values_of (value_words words.now))
+        × (chances.now ≡ chances_of (chance_words words.now)) × (values.now ≡ values_of (value_words words.now))
         × (opened.next ≡ calls_at words.now) × (opened.chance ≤ length chances.now) × (opened.value ≤ length values.now)
         × (line.from ≤ 671) × (drop line.from (input_text input.now) ≡ calls_text words.now (call_count words.now) 1 opened) }
     ensures { drop result.from (input_text input.now) ≡ [] }
@@ -45,7 +45,7 @@ fn calls(
 // Runs the opening, hands its line over, and goes on with the calls; a refused opening ends the run.
 fn opening(input: &[u8], words: &[u64], chances: &[f32], values: &[f64]) -> Handed
     requires { (input_text input.now ≡ run_text words.now) × (check_of words.now ≡ 0) × (length words.now ≤ 8192)
-        × (chances.now ≡ chancesOf (chance_words words.now)) × (values.now ≡ values_of (value_words words.now)) }
+        × (chances.now ≡ chances_of (chance_words words.now)) × (values.now ≡ values_of (value_words words.now)) }
     ensures { drop result.from (input_text input.now) ≡ [] }
 {
     let started = run::start(words, values);

@@ -2,7 +2,7 @@
 #![tactic(auto)]
 
 ghost use Rattle.std.specs.Prelude.{◌≡◌, ◌++◌, ◌+◌, ◌*◌, ◌≤◌, min, length, drop};
-ghost use Rattle.text.specs.Words.{chances as chancesOf, values as values_of};
+ghost use Rattle.text.specs.Words.{chances as chances_of, values as values_of};
 ghost use Rattle.stream.specs.Stream.{next_call, chance_words, value_words, check_of};
 ghost use Rattle.run.specs.Run.{opened_of, started, printed, stands_after};
 
@@ -89,7 +89,7 @@ pub fn one_call(
 ) -> Rendered
     requires { (check_of words.now ≡ 0) × (next_call words.now s.next ≤ length words.now) × (s.chance ≤ length chances.now)
         × (s.value ≤ length values.now) × (671 ≤ length line.old)
-        × (chances.now ≡ chancesOf (chance_words words.now)) × (values.now ≡ values_of (value_words words.now)) }
+        × (chances.now ≡ chances_of (chance_words words.now)) × (values.now ≡ values_of (value_words words.now)) }
     ensures stands { result.stands ≡ stands_after words.now s }
     ensures text { line.new ≡ printed words.now i s ++ drop result.bytes line.old }
     ensures size { (result.bytes ≡ length (printed words.now i s)) × (result.bytes ≤ 671)

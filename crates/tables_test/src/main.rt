@@ -6,7 +6,8 @@
 
 ghost use Rattle.std.specs.Prelude.{◌≡◌, ◌≤◌, length};
 
-use libc::STDOUT_FILENO;
+const STDOUT_FILENO: i32 = 1;
+
 use machine::constants::{
     ACTION, COUNTER_A, COUNTER_B, COUNTER_DIST, DURATION, EVENT_NUM, EVENTS, FIRST_STATE, FLAGS,
     LIMIT, MACHINE_MAX, MACHINE_WORDS, MAX_BLOCKING_FRAC, MAX_PADDING_FRAC, NUM_STATES,

@@ -6,8 +6,7 @@ use lib.Dec.{T}
 use lib.Ieee.{Float, nan, inf, fin, eq, is_nan}
 use borrow.Author.Rules.{rules}
 use native.Mathlib.Omega.{arith}
-use Rattle.replay.proofs.answer.bits.Statement.{statement}
-use Rattle.replay.proofs.answer.bits.Tie as tie
+use Rattle.replay.proofs.answer.bits.Goals as goal
 
 no_nan : (x : Float) → eq x x ≡ true → T (not (is_nan x))
 unfolding eq is_nan
@@ -15,14 +14,5 @@ no_nan nan e = let z : ◌≡◌ {A = Bool} false true = e in let n : ◌≡◌ 
 no_nan (inf s) e = tt
 no_nan (fin s m k) e = tt
 
-float-to-bits-result : tie.Need-float-to-bits-result
-float-to-bits-result c = no_nan _ c.if1.true
-
-returns : tie.Need-returns
-returns c = search rules
-
-returns-2 : tie.Need-returns-2
-returns-2 c = search rules
-
-pub bits-spec : {M : Type 1} → statement M
-bits-spec = tie.close (tie.spec float-to-bits-result returns returns-2)
+pub float_to_bits-result : goal.float_to_bits-result
+float_to_bits-result c = no_nan _ c.if-x.true

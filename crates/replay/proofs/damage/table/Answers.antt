@@ -1,0 +1,8 @@
+-- `replay::damage::table` is safe.
+use native.Mathlib.Omega.{arith}
+use lib.ListN.{length-take}
+use borrow.Author.Rules.{rules}
+use Rattle.replay.proofs.damage.table.Goals as goal
+
+pub slice_bounds-result-end : goal.slice_bounds-result-end
+slice_bounds-result-end c = simp length-take (omega arith)
