@@ -95,12 +95,23 @@ def collisions(turned, names):
     return {new: old for new, old in to.items() if len(old) > 1}
 
 
+def borrowed(text, own):
+    """The names that a file takes from a library, which keep their spelling there."""
+    out = set()
+    for module, items in re.findall(r"(?m)^use ([\w.]+)\.\{([^}]*)\}", text):
+        parts = module.split(".")
+        if parts[0][0].islower() or parts[0] == "Prim" or parts[0] == "Rattle" and parts[1] not in own:
+            out |= set(re.split(r"[,\s]+", items))
+    return out
+
+
 def turn(text, turned):
     return WORD.sub(lambda m: turned.get(m.group(0), m.group(0)), text)
 
 
 def main(argv):
     turned, names = table()
+    own = set(os.listdir("crates"))
     if argv == ["--table"]:
         for old in sorted(turned):
             print(old, turned[old])
@@ -110,7 +121,8 @@ def main(argv):
     for path in list(texts()) + sorted(glob.glob("crates/*/src/**/*.rt", recursive=True)) + sorted(glob.glob("crates/*/must-fail/*.edit")):
         text = read(path)
         apart = {old: new for old, (new, folder) in APART.items() if path.startswith(folder)}
-        new = turn(text, {**turned, **apart})
+        kept = borrowed(text, own)
+        new = turn(text, {old: new for old, new in {**turned, **apart}.items() if old not in kept})
         if new != text:
             with open(path, "w", encoding="utf-8") as file:
                 file.write(new)

@@ -5,7 +5,7 @@ use mathlib.Core.List.{List}
 use native.Mathlib.Omega.{arith}
 use lib.ListN.{length}
 use lib.Dec.{eqb}
-use mathlib.Core.Bool.{false, or_false}
+use mathlib.Core.Bool.{false, or-false}
 use borrow.Author.Tests.{ne_eqb, le-leb, lt-leb}
 use lib.Ieee.{Float, binary32, of_bits, add}
 use Rattle.machine.specs.State.{target_at, probability_at}
@@ -59,7 +59,7 @@ module _ (ts : List ℕ) (n first e : ℕ) (some : first < e) where
 
   one-before : at ts n first (first + 1) ≡ there
   unfolding seen_in
-  one-before = let k : first + 1 - first ≡ suc zero = omega arith in rw (k, or_false (eqb (target_at ts first) (target_at ts (first + 1))))
+  one-before = let k : first + 1 - first ≡ suc zero = omega arith in rw (k, or-false (eqb (target_at ts first) (target_at ts (first + 1))))
 
   pub there_is : (a b x : ℕ) → a ≡ target_at ts first → b ≡ target_at ts (first + 1) → x ≡ transition_refusal ts n (first + 1) (eqb a b) → x ≡ there
   there_is a b x p q is = rw (sym p, sym q) is

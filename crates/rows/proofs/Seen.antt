@@ -4,7 +4,7 @@ use native.Mathlib.Nat.{add-zero}
 use native.Mathlib.Omega.{arith}
 use mathlib.Core.Path.{◌≡◌, refl, sym, ap, ◌∙◌}
 use mathlib.Core.List.{List}
-use mathlib.Core.Bool.{Bool, true, false, cond, ◌||◌, or-true, or_false}
+use mathlib.Core.Bool.{Bool, true, false, cond, ◌||◌, or-true, or-false}
 use mathlib.Core.Logic.{◌⊎◌, inl, inr}
 use lib.Dec.{ltb, leb, eqb}
 use lib.ListN.{length}
@@ -39,7 +39,7 @@ or_assoc false b c = refl
 
 last : (ts : List ℕ) (target k j : ℕ) → seen_in ts target (suc k) j ≡ (seen_in ts target k j || eqb (target_at ts (j + k)) target)
 unfolding seen_in
-last ts target zero j = rw (add-zero j) (or_false (eqb (target_at ts j) target))
+last ts target zero j = rw (add-zero j) (or-false (eqb (target_at ts j) target))
 last ts target (suc k) j =
     let s : j + suc k ≡ j + 1 + k = omega arith in
     let here = eqb (target_at ts j) target in
@@ -127,7 +127,7 @@ module _ (marks ts : List ℕ) (n first i : ℕ) (met : Met marks ts n first i) 
           rw p
           (mark_other marks (mark_of n (target_at ts i)) fits (mark_of n target)
           (λ q. eqb-false (target_at ts i) target p (sym (one_mark n target (target_at ts i) t here q)))
-          ∙ met target t ∙ sym (or_false (seen_in ts target (i - first) first)))
+          ∙ met target t ∙ sym (or-false (seen_in ts target (i - first) first)))
 
 -- a transition that passes has a target
 pub passed : (ts : List ℕ) (n i : ℕ) (seen : Bool) → transition_refusal ts n i seen ≡ 0 → is_target n (target_at ts i) ≡ true

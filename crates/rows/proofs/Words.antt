@@ -73,9 +73,8 @@ word_number w k =
 
 -- ---- a transition to a state of the machine, with such a word, is refused only where its target repeats
 pub usual : (ts : List ℕ) (n i : ℕ) (seen : Bool) (target w : ℕ) → target ≡ target_at ts i → w ≡ probability_word ts i
-    → target < n → not (eqb w 0) ≡ true → leb w 0x3f80_0000 ≡ true → transition_refusal ts n i seen ≡ cond seen 11 0
+    → target < n → (w ≡ 0 → ⊥) → w ≤ 0x3f80_0000 → transition_refusal ts n i seen ≡ cond seen 11 0
 unfolding transition_refusal is_target
-usual ts n i seen target w p q t h k =
-    let below : w ≤ 0x3f80_0000 = leb-true w 0x3f80_0000 k in
-    let some : 0 < w = pos_of_ne-zero (eqb-false w 0 (not-true (eqb w 0) h)) in
+usual ts n i seen target w p q t h below =
+    let some : 0 < w = pos_of_ne-zero h in
     rw (sym p, sym q) (simp (lt-leb 0x1_0000_0000 w (lt_of_le_of_lt below (lit< tt)), lt-ltb target n t, word_probable w some below))
