@@ -69,9 +69,9 @@ hand_over-h-requires c =
     let p = t in
     let ws = p.args.words.now in
     let few = calls_few ws p.requires.0 in (
-      part (printed ws (l.i + 1) l.s) _ l.text _ (drop l.h.from (input_text p.args.input.now)) o.result.bytes o.ensures.1.0 o.ensures.1.1.0
+      part (printed ws (l.i + 1) l.s) _ l.text _ (drop l.h.from (input_text p.args.input.now)) o.result.bytes o.ensures.text o.ensures.size.0
           (turn ws _ w.result l.i l.s t.loop-i-test.true l.invariant.6),
-      simp length-take (omega (arith, o.ensures.1.1.1, l.invariant.5, t.loop-i-test.true, w.ensures, few, p.requires.1)),
+      simp length-take (omega (arith, o.ensures.size.1, l.invariant.5, t.loop-i-test.true, w.ensures, few, p.requires.1)),
     )
 
 pub overflow_add-i-in-loop-i : goal.overflow_add-i-in-loop-i
@@ -95,7 +95,7 @@ loop-i-preserved c =
     let ws = p.args.words.now in
     let text = input_text p.args.input.now in
     let e = turn ws (drop l.h.from text) w.result l.i l.s t.loop-i-test.true l.invariant.6 in
-    let n : o.result.stands.next ≡ call_at ws (l.i + 1) = next_is ws l.i l.s o.result.stands o.ensures.0 l.invariant.2 in (
+    let n : o.result.stands.next ≡ call_at ws (l.i + 1) = next_is ws l.i l.s o.result.stands o.ensures.stands l.invariant.2 in (
       omega (arith, t.loop-i-test.true),
       o.auto.1.1.1.1.1.0 ∙ l.invariant.1,
       n,
