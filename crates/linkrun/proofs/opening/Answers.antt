@@ -62,14 +62,14 @@ calls-requires c =
     let all : drop none.result.from text ≡ text = ap (λ (k : ℕ). drop k text) none.ensures in
     let left = all ∙ p.requires.0 ∙ opens_accepted p.args.words.now o.result o.ensures.is c.if-started-ne0.false in
     let further = c.hand_over-h.ensures in
-    let s = at_first p.args.words.now o.result o.ensures.0 in (
+    let s = at_first p.args.words.now o.result o.ensures.is in (
       p.requires.1,
       p.requires.2,
       p.requires.3,
       p.requires.4,
       s.0,
       omega (arith, s.1),
-      o.ensures.1,
+      o.ensures.within,
       omega (arith, none.ensures, t.ensures.0, simp length-take at further),
       behind (call_text 0 refusal 0 []) _ _ _ text none.result.from t.result _ is size left further,
     )
