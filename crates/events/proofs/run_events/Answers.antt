@@ -378,7 +378,7 @@ loop-m-smaller c =
     let end-for = c.end_for-end in
     let first-for = c.first_for-m in
     let if3 = c.if-n-i in
-    omega (arith, if3.false, end-for.ensures.1.0, first-for.ensures)
+    omega (arith, if3.false, end-for.ensures.within.0, first-for.ensures)
 
 pub loop-m-preserved : goal.loop-m-preserved
 loop-m-preserved c =
@@ -393,9 +393,9 @@ loop-m-preserved c =
     let pre = c.requires in (
       omega (arith, if3.false),
       kind_fits _ _ _ if3.false (pre),
-      λ h. end-for.ensures.1.1 (rw (← first-for.ensures) h),
+      λ h. end-for.ensures.within.1 (rw (← first-for.ensures) h),
       loop.invariant.3,
       ahead_event loop.invariant.4 if1.false if3.false
-          blocked-for.ensures first-for.ensures (rw smaller.ensures at end-for.ensures.0)
+          blocked-for.ensures first-for.ensures (rw smaller.ensures at end-for.ensures.is)
           totals-after.ensures,
     )
