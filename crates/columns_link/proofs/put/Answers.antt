@@ -30,6 +30,6 @@ pub returns : goal.returns
 returns c =
     let s = c in
     let a = s.args in
-    all_put a.width a.numbers.now a.text.now c.put_numbers.new.0
+    all_put a.width a.numbers.now a.text.now c.put_numbers.new.line
     (inside a.width (length a.numbers.now) (length a.text.now) s.requires c.if-text-width.false)
     c.put_numbers.ensures
