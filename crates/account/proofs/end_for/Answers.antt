@@ -12,16 +12,16 @@ returns-then-machine-count c =
     let own-only = c.own_only in
     let pre = c.requires in
     rw (sym own-only.ensures ∙ if1.true, lt-ltb _ _ c.if-machine-count.true)
-    (refl, (omega arith, λ h. omega (arith, c.if-machine-count.true, pre)))
+    record { is = refl; within = (omega arith, λ h. omega (arith, c.if-machine-count.true, pre)) }
 
 pub returns-then-own_only : goal.returns-then-own_only
 returns-then-own_only c =
     let if1 = c.if-own_only in
     let own-only = c.own_only in
     rw (sym own-only.ensures ∙ if1.true, le-ltb _ _ c.if-machine-count.false)
-    (search rules, (omega arith, λ h. omega arith))
+    record { is = search rules; within = (omega arith, λ h. omega arith) }
 
 pub returns : goal.returns
 returns c =
     rw (sym c.own_only.ensures ∙ c.if-own_only.false)
-    (search rules, (omega arith, λ h. omega arith))
+    record { is = search rules; within = (omega arith, λ h. omega arith) }

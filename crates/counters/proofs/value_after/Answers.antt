@@ -15,18 +15,18 @@ returns-then-operation-eq0 c =
 pub returns-in-Refused : goal.returns-in-Refused
 unfolding value_after
 returns-in-Refused c =
-    let change = c.change-1 in
+    let change = c.in-Refused in
     let change-of = c.change_of-change in
     let if1 = c.if-operation-eq0 in
     let word = c.word-operation in
-    rw (ne_eqb _ _ (λ e. if1.false (word.ensures ∙ e)), sym change-of.ensures ∙ change.given.1)
+    rw (ne_eqb _ _ (λ e. if1.false (word.ensures ∙ e)), sym change-of.ensures ∙ change.is)
 
 pub returns-in-GotWhole : goal.returns-in-GotWhole
 unfolding value_after
 returns-in-GotWhole c =
     let applied = c.applied-value in
-    let change2 = c.change-in-GotWhole-1 in
+    let change2 = c.in-GotWhole in
     let change-of = c.change_of-change in
     let if1 = c.if-operation-eq0 in
     let word = c.word-operation in
-    rw (ne_eqb _ _ (λ e. if1.false (word.ensures ∙ e)), sym change-of.ensures ∙ change2.given.1, sym word.ensures, applied.ensures)
+    rw (ne_eqb _ _ (λ e. if1.false (word.ensures ∙ e)), sym change-of.ensures ∙ change2.is, sym word.ensures, applied.ensures)

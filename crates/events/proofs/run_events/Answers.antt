@@ -56,12 +56,12 @@ choose-choice-requires c =
 pub returns-in-Refused : goal.returns-in-Refused
 returns-in-Refused c =
     let stopped = c.stopped in
-    let choice = c.choice-1 in
+    let choice = c.in-Refused in
     let choose = c.choose-choice in
     let event-of = c.event_of in
     let states-of = c.states_of-rows in
     let if1 = c.if-m-end in
-    let loop = c.loop-m in record { is = stopped.ensures ∙ sym (ap (ran_from _) (ahead_missing loop.invariant.4 (λ _ _ _. refl) if1.true (sym (rw (states-of.ensures, event-of.ensures) at choose.ensures) ∙ choice.given.1))); keeps = ap (λ (r : Ran). r.framework.machines) stopped.ensures }
+    let loop = c.loop-m in record { is = stopped.ensures ∙ sym (ap (ran_from _) (ahead_missing loop.invariant.4 (λ _ _ _. refl) if1.true (sym (rw (states-of.ensures, event-of.ensures) at choose.ensures) ∙ choice.is))); keeps = ap (λ (r : Ran). r.framework.machines) stopped.ensures }
 
 pub offset_bounds-f-m-then-only_counts : goal.offset_bounds-f-m-then-only_counts
 offset_bounds-f-m-then-only_counts c =
@@ -90,7 +90,7 @@ pub loop-m-preserved-then-only_counts : goal.loop-m-preserved-then-only_counts
 loop-m-preserved-then-only_counts c =
     let if2 = c.if-only_counts in
     let only-counts = c.only_counts in
-    let choice2 = c.choice-in-Chosen-1 in
+    let choice2 = c.in-Chosen in
     let choose = c.choose-choice in
     let event-of = c.event_of in
     let counted-by = c.counted_by-counted in
@@ -102,7 +102,7 @@ loop-m-preserved-then-only_counts c =
       loop.invariant.1,
       λ h. loop.invariant.2 if1.true,
       loop.invariant.3,
-      rw counted-by.ensures (ahead_counts loop.invariant.4 (λ _ _ _. refl) if1.true (sym (rw (states-of.ensures, event-of.ensures) at choose.ensures) ∙ choice2.given.1)
+      rw counted-by.ensures (ahead_counts loop.invariant.4 (λ _ _ _. refl) if1.true (sym (rw (states-of.ensures, event-of.ensures) at choose.ensures) ∙ choice2.is)
           (sym (rw limit-falls.ensures at only-counts.ensures) ∙ if2.true)),
     )
 
@@ -139,10 +139,10 @@ pub loop-m-preserved-in-Kept : goal.loop-m-preserved-in-Kept
 loop-m-preserved-in-Kept c =
     let shared-after = c.shared_after-s in
     let runtime-after = c.runtime_after-r2 in
-    let short = c.short-1 in
+    let short = c.in-Kept in
     let short-way = c.short_way-short in
     let context-of = c.context_of-read in
-    let choice2 = c.choice-in-Chosen-1 in
+    let choice2 = c.in-Chosen in
     let choose = c.choose-choice in
     let event-of = c.event_of in
     let counted-by = c.counted_by-counted in
@@ -154,8 +154,8 @@ loop-m-preserved-in-Kept c =
       loop.invariant.1,
       λ h. loop.invariant.2 if1.true,
       loop.invariant.3,
-      rw (runtime-after.ensures, counted-by.ensures, shared-after.ensures) (ahead_kept loop.invariant.4 (λ _ _ _. refl) if1.true (sym (rw (states-of.ensures, event-of.ensures) at choose.ensures) ∙ choice2.given.1)
-          (kept_turn counter_num _ _ _ _ _ _ (rw (← counted-by.ensures) (sym (rw (states-of.ensures, limit-falls.ensures, context-of.ensures) at short-way.ensures) ∙ short.given.1)))),
+      rw (runtime-after.ensures, counted-by.ensures, shared-after.ensures) (ahead_kept loop.invariant.4 (λ _ _ _. refl) if1.true (sym (rw (states-of.ensures, event-of.ensures) at choose.ensures) ∙ choice2.is)
+          (kept_turn counter_num _ _ _ _ _ _ (rw (← counted-by.ensures) (sym (rw (states-of.ensures, limit-falls.ensures, context-of.ensures) at short-way.ensures) ∙ short.is)))),
     )
 
 pub offset_bounds-actions-m : goal.offset_bounds-actions-m
@@ -197,10 +197,10 @@ pub loop-m-preserved-in-Acted : goal.loop-m-preserved-in-Acted
 loop-m-preserved-in-Acted c =
     let shared-after2 = c.shared_after-s-in-Acted in
     let runtime-after2 = c.runtime_after-r2-in-Acted in
-    let short2 = c.short-in-Acted-1 in
+    let short2 = c.in-Acted in
     let short-way = c.short_way-short in
     let context-of = c.context_of-read in
-    let choice2 = c.choice-in-Chosen-1 in
+    let choice2 = c.in-Chosen in
     let choose = c.choose-choice in
     let event-of = c.event_of in
     let counted-by = c.counted_by-counted in
@@ -212,8 +212,8 @@ loop-m-preserved-in-Acted c =
       loop.invariant.1,
       λ h. loop.invariant.2 if1.true,
       loop.invariant.3,
-      rw (runtime-after2.ensures, counted-by.ensures, shared-after2.ensures) (ahead_done loop.invariant.4 (λ _ _ _. refl) if1.true (sym (rw (states-of.ensures, event-of.ensures) at choose.ensures) ∙ choice2.given.1)
-          (acted_turn counter_num _ _ _ _ _ _ (rw (← counted-by.ensures) (sym (rw (states-of.ensures, limit-falls.ensures, context-of.ensures) at short-way.ensures) ∙ short2.given.1)))),
+      rw (runtime-after2.ensures, counted-by.ensures, shared-after2.ensures) (ahead_done loop.invariant.4 (λ _ _ _. refl) if1.true (sym (rw (states-of.ensures, event-of.ensures) at choose.ensures) ∙ choice2.is)
+          (acted_turn counter_num _ _ _ _ _ _ (rw (← counted-by.ensures) (sym (rw (states-of.ensures, limit-falls.ensures, context-of.ensures) at short-way.ensures) ∙ short2.is)))),
     )
 
 pub offset_bounds-actions-m-then-m-end : goal.offset_bounds-actions-m-then-m-end
@@ -251,11 +251,11 @@ after_transition-x-requires c =
 pub returns-in-Refused-x : goal.returns-in-Refused-x
 returns-in-Refused-x c =
     let stopped2 = c.stopped-in-Refused-x in
-    let x = c.x-1 in
+    let x = c.in-Refused-x in
     let after-transition = c.after_transition-x in
     let going = c.going-went in
     let context-of = c.context_of-c in
-    let choice2 = c.choice-in-Chosen-1 in
+    let choice2 = c.in-Chosen in
     let choose = c.choose-choice in
     let event-of = c.event_of in
     let counted-by = c.counted_by-counted in
@@ -263,8 +263,8 @@ returns-in-Refused-x c =
     let limit-falls = c.limit_falls-falls in
     let if1 = c.if-m-end in
     let loop = c.loop-m in record {
-      is = stopped2.ensures ∙ sym (ap (ran_from _) (ahead_refused loop.invariant.4 (λ _ _ _. refl) if1.true (sym (rw (states-of.ensures, event-of.ensures) at choose.ensures) ∙ choice2.given.1)
-          (sym (rw (limit-falls.ensures, going.ensures counter_num (at_most loop.s), states-of.ensures, context-of.ensures, counted-by.ensures) at after-transition.ensures) ∙ x.given.1)));
+      is = stopped2.ensures ∙ sym (ap (ran_from _) (ahead_refused loop.invariant.4 (λ _ _ _. refl) if1.true (sym (rw (states-of.ensures, event-of.ensures) at choose.ensures) ∙ choice2.is)
+          (sym (rw (limit-falls.ensures, going.ensures counter_num (at_most loop.s), states-of.ensures, context-of.ensures, counted-by.ensures) at after-transition.ensures) ∙ x.is)));
       keeps = ap (λ (r : Ran). r.framework.machines) stopped2.ensures;
     }
 
@@ -305,11 +305,11 @@ loop-m-smaller-in-Done c =
 
 pub loop-m-preserved-in-Done : goal.loop-m-preserved-in-Done
 loop-m-preserved-in-Done c =
-    let x2 = c.x-in-Done-1 in
+    let x2 = c.in-Done in
     let after-transition = c.after_transition-x in
     let going = c.going-went in
     let context-of = c.context_of-c in
-    let choice2 = c.choice-in-Chosen-1 in
+    let choice2 = c.in-Chosen in
     let choose = c.choose-choice in
     let event-of = c.event_of in
     let counted-by = c.counted_by-counted in
@@ -321,8 +321,8 @@ loop-m-preserved-in-Done c =
       loop.invariant.1,
       λ h. loop.invariant.2 if1.true,
       loop.invariant.3,
-      ahead_done loop.invariant.4 (λ _ _ _. refl) if1.true (sym (rw (states-of.ensures, event-of.ensures) at choose.ensures) ∙ choice2.given.1)
-          (sym (rw (limit-falls.ensures, going.ensures counter_num (at_most loop.s), states-of.ensures, context-of.ensures, counted-by.ensures) at after-transition.ensures) ∙ x2.given.1),
+      ahead_done loop.invariant.4 (λ _ _ _. refl) if1.true (sym (rw (states-of.ensures, event-of.ensures) at choose.ensures) ∙ choice2.is)
+          (sym (rw (limit-falls.ensures, going.ensures counter_num (at_most loop.s), states-of.ensures, context-of.ensures, counted-by.ensures) at after-transition.ensures) ∙ x2.is),
     )
 
 pub returns-then-n-i : goal.returns-then-n-i
@@ -378,7 +378,7 @@ loop-m-smaller c =
     let end-for = c.end_for-end in
     let first-for = c.first_for-m in
     let if3 = c.if-n-i in
-    omega (arith, if3.false, end-for.ensures.1.0, first-for.ensures)
+    omega (arith, if3.false, end-for.ensures.within.0, first-for.ensures)
 
 pub loop-m-preserved : goal.loop-m-preserved
 loop-m-preserved c =
@@ -393,9 +393,9 @@ loop-m-preserved c =
     let pre = c.requires in (
       omega (arith, if3.false),
       kind_fits _ _ _ if3.false (pre),
-      λ h. end-for.ensures.1.1 (rw (← first-for.ensures) h),
+      λ h. end-for.ensures.within.1 (rw (← first-for.ensures) h),
       loop.invariant.3,
       ahead_event loop.invariant.4 if1.false if3.false
-          blocked-for.ensures first-for.ensures (rw smaller.ensures at end-for.ensures.0)
+          blocked-for.ensures first-for.ensures (rw smaller.ensures at end-for.ensures.is)
           totals-after.ensures,
     )

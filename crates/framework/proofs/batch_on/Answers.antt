@@ -110,7 +110,7 @@ accepted-requires c =
 pub returns-in-Refused : goal.returns-in-Refused
 unfolding batch
 returns-in-Refused c =
-    let verdict = c.verdict-1 in
+    let verdict = c.in-Refused in
     let trigger-events = c.trigger_events-ran in
     let if1 = c.if-refusal-ne0 in
     let args = c.args in
@@ -118,7 +118,7 @@ returns-in-Refused c =
     let D = lent args.chances.now args.values.now args.words.now in
     let es = args.events.now in
     let stops = stopped_is (entered args.t1) (trigger_events T D args.time es args.t1) _ _
-    trigger-events.ensures.0 verdict.given.1 in
+    trigger-events.ensures.0 verdict.is in
     let none = sym (refusal_is c) ∙ if1.false in
     let passed = passed_on args.raw T args.t1 es args.out.now none in
     rw (passed.0, eq-eqb _ _ passed.1, stops) (c.refused-in-Refused.ensures args.out.now, refl)
@@ -127,7 +127,7 @@ pub returns-in-Complete : goal.returns-in-Complete
 unfolding batch
 returns-in-Complete c =
     let accepted = c.accepted in
-    let enum_told = c.enum_told-1 in
+    let enum_told = c.in-Complete in
     let trigger-events = c.trigger_events-ran in
     let if1 = c.if-refusal-ne0 in
     let args = c.args in
@@ -135,7 +135,7 @@ returns-in-Complete c =
     let D = lent args.chances.now args.values.now args.words.now in
     let es = args.events.now in
     let ends = complete_is (entered args.t1) (trigger_events T D args.time es args.t1) _
-    trigger-events.ensures.0 enum_told.given.1 in
+    trigger-events.ensures.0 enum_told.is in
     let none = sym (refusal_is c) ∙ if1.false in
     let passed = passed_on args.raw T args.t1 es args.out.now none in
     rw (passed.0, eq-eqb _ _ passed.1, ends) accepted.ensures

@@ -30,7 +30,7 @@ returns-in-Refused c =
 pub returns-then-s-eq0 : goal.returns-then-s-eq0
 unfolding trigger_events signals
 returns-then-s-eq0 c =
-    let enum-told2 = c.enum_told-in-Complete-1 in
+    let enum-told2 = c.in-Complete in
     let run-events = c.run_events-ran in
     let c₁ = c in
     let args = c₁.args in
@@ -39,13 +39,13 @@ returns-then-s-eq0 c =
     let es = args.events.now in
     let ran = each (event_turn T D es) (length es / 2) 0 (begin args.fw args.time) in
     let ends = complete_is (entered args.fw) ran _
-    run-events.ensures.0 enum-told2.given.1 in
+    run-events.ensures.0 enum-told2.is in
     record { is = rw (ends, eq-eqb _ _ c.if-s-eq0.true) (rw ends at run-events.ensures.0); keeps = run-events.ensures.1 }
 
 pub returns-in-Refused-last : goal.returns-in-Refused-last
 unfolding trigger_events
 returns-in-Refused-last c =
-    let last = c.last-1 in
+    let last = c.in-Refused-last in
     let run-signals = c.run_signals-heard in
     let c₁ = c in
     let enum-told2 = c₁.enum_told-in-Complete-1 in
@@ -59,7 +59,7 @@ returns-in-Refused-last c =
     let ends = complete_is (entered args.fw) ran _
     run-events.ensures.0 enum-told2.given.1 in
     let stops = stopped_is (run_of run-events.result) (signals T D (run_of run-events.result)) _ _
-    run-signals.ensures.0 last.given.1 in
+    run-signals.ensures.0 last.is in
     record { is = rw (ends, stops) c.stopped.ensures; keeps = ap (λ (r : Ran). r.framework.machines) c.stopped.ensures }
 
 pub returns-in-Complete-last : goal.returns-in-Complete-last

@@ -12,13 +12,13 @@ use Rattle.rows.proofs.Rows.{rest, row_starts, row_on, row_stops, row_ends}
 use Rattle.rows.proofs.check_marked_row.Goals as goal
 
 pub loop-i-init : goal.loop-i-init
-loop-i-init c = (search rules, (search rules, (refl, (met_none _ _ _ _ c.requires.in_order.1.1.1, row_starts _ _ _ _))))
+loop-i-init c = (search rules, (search rules, (refl, (met_none _ _ _ _ c.requires.unmarked, row_starts _ _ _ _))))
 
 pub meet-seen-requires : goal.meet-seen-requires
-meet-seen-requires c = record { few_states = search rules; room = omega (arith, c.loop-i.invariant.1.1.0, c.requires.in_order.1.1.0) }
+meet-seen-requires c = record { few_states = search rules; room = omega (arith, c.loop-i.invariant.1.1.0, c.requires.room) }
 
 pub shape_of-marks-then-refusal-ne0 : goal.shape_of-marks-then-refusal-ne0
-shape_of-marks-then-refusal-ne0 c = c.meet-seen.auto.0 ∙ c.loop-i.invariant.1.1.0
+shape_of-marks-then-refusal-ne0 c = c.meet-seen.auto.marks ∙ c.loop-i.invariant.1.1.0
 
 pub returns-then-refusal-ne0 : goal.returns-then-refusal-ne0
 returns-then-refusal-ne0 c =
@@ -40,10 +40,10 @@ loop-i-preserved c =
       (
         search rules,
         (
-          m.auto.0 ∙ l.1.1.0,
+          m.auto.marks ∙ l.1.1.0,
           (
             rw f (met_on _ _ _ _ _ l.1.1.1.0 l.0
-                (omega (arith, mark_below a.args.n (target_at a.args.transitions.now c.loop-i.i), l.1.1.0, a.requires.in_order.1.1.0))
+                (omega (arith, mark_below a.args.n (target_at a.args.transitions.now c.loop-i.i), l.1.1.0, a.requires.room))
                 (passed _ _ _ _ (sym q ∙ z))),
             rw c.probability_at-sum.ensures (l.1.1.1.1 ∙ row_on _ _ _ _ _ _ c.loop-i-test.true (sym e ∙ z)),
           ),

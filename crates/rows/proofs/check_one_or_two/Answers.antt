@@ -37,6 +37,6 @@ returns c =
     let none = sym c.check_transition-refusal.ensures ∙ c.if-refusal-ne0.false in
     let pre = c.requires in
     let two = c.if-last-end.false in
-    let e = there_is _ _ _ _ pre.0 _ _ _ first last c.check_transition-refusal-2.ensures in
+    let e = there_is _ _ _ _ pre.some _ _ _ first last c.check_transition-refusal-2.ensures in
     c.check_sum-2.ensures
-    ∙ no_third _ _ _ _ pre.0 none (omega (arith, pre.0, two)) pre.1.0 (sym e ∙ c.if-refusal-ne0-2.false) _ _ one other
+    ∙ no_third _ _ _ _ pre.some none (omega (arith, pre.some, two)) pre.short (sym e ∙ c.if-refusal-ne0-2.false) _ _ one other

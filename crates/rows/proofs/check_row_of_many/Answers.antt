@@ -3,5 +3,5 @@ use borrow.Author.Rules.{rules}
 use Rattle.rows.proofs.Bits.{clear}
 use Rattle.rows.proofs.check_row_of_many.Goals as goal
 
-pub check_marked_row-requires : goal.check_marked_row-requires
-check_marked_row-requires c = (search rules, (search rules, (search rules, (search rules, clear 1563))))
+pub check_marked_row-requires-clause-unmarked : goal.check_marked_row-requires-clause-unmarked
+check_marked_row-requires-clause-unmarked c = clear 1563

@@ -73,7 +73,7 @@ transition-x-requires c =
 
 pub returns-in-Refused : goal.returns-in-Refused
 returns-in-Refused c =
-    let x = c.x-1 in
+    let x = c.in-Refused in
     let transition = c.transition-x in
     let context-of = c.context_of-c in
     let states-of = c.states_of-rows in
@@ -82,7 +82,7 @@ returns-in-Refused c =
     let loop = c.loop-m in record {
       is = rw (heard_stops loop.invariant.2 if1.true if2.false
           (sym (rw (states-of.ensures, context-of.ensures) at (transition.ensures counter_num (at_most loop.t)))
-          ∙ x.given.1));
+          ∙ x.is));
       keeps = refl;
     }
 
@@ -123,7 +123,7 @@ loop-m-smaller-then-m-end c =
 
 pub loop-m-preserved-then-m-end : goal.loop-m-preserved-then-m-end
 loop-m-preserved-then-m-end c =
-    let x2 = c.x-in-Done-1 in
+    let x2 = c.in-Done in
     let transition = c.transition-x in
     let context-of = c.context_of-c in
     let states-of = c.states_of-rows in
@@ -134,7 +134,7 @@ loop-m-preserved-then-m-end c =
       loop.invariant.1,
       heard_turn loop.invariant.2 if1.true if2.false
           (sym (rw (states-of.ensures, context-of.ensures) at (transition.ensures counter_num (at_most loop.t)))
-          ∙ x2.given.1),
+          ∙ x2.is),
     )
 
 pub returns-then-t-eq0 : goal.returns-then-t-eq0

@@ -20,13 +20,13 @@ put_words-requires c =
 pub slice_bounds-check-end : goal.slice_bounds-check-end
 slice_bounds-check-end c =
     let z = sym c.size_refusal.ensures ∙ c.if-size_refusal-ne0.false in
-    let k = c.put_words.auto.1.1.0 in
+    let k = c.put_words.auto.out in
     omega (arith, size_fits _ z, k)
 
 pub slice_bounds-check-end-2 : goal.slice_bounds-check-end-2
 slice_bounds-check-end-2 c =
     let z = sym c.size_refusal.ensures ∙ c.if-size_refusal-ne0.false in
-    let k = c.put_words.auto.1.1.0 in
+    let k = c.put_words.auto.out in
     simp length-take (omega (arith, size_fits _ z, k))
 
 pub returns : goal.returns

@@ -20,12 +20,12 @@ loop-i-preserved c =
     let r = c.put_row in (
       omega arith,
       omega arith,
-      r.auto.0 ∙ l.invariant.2,
+      r.auto.out ∙ l.invariant.2,
       one_row a.call a.refusal a.actions a.rows.now _ l.out _ l.at l.i l.invariant.3 r.ensures,
     )
 
 pub shape_of-out : goal.shape_of-out
-shape_of-out c = c.loop-i.invariant.2 ∙ c.call_line.auto.0
+shape_of-out c = c.loop-i.invariant.2 ∙ c.call_line.auto.line
 
 pub returns : goal.returns
 returns c =

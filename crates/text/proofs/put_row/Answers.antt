@@ -7,4 +7,4 @@ pub returns : goal.returns
 returns c =
     let a = c.args in
     let r = c.row_line in
-    rowed a.out.now a.rows.now r.new.0 a.at a.i r.ensures
+    rowed a.out.now a.rows.now r.new.line a.at a.i r.ensures

@@ -14,7 +14,7 @@ shape_of-line c =
     let p2 = p3 in
     let p1 = p2 in
     simp length-set
-    (p6.put_number-6.auto.0 ∙ p5.put_number-5.auto.0 ∙ p4.put_number-4.auto.0 ∙ p3.put_number-3.auto.0 ∙ p2.put_number-2.auto.0 ∙ p1.put_number.auto.0)
+    (p6.put_number-6.auto.line ∙ p5.put_number-5.auto.line ∙ p4.put_number-4.auto.line ∙ p3.put_number-3.auto.line ∙ p2.put_number-2.auto.line ∙ p1.put_number.auto.line)
 
 pub returns : goal.returns
 returns c =

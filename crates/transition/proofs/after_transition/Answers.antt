@@ -6,6 +6,8 @@ use Rattle.steps.specs.Transition.{Env}
 use Rattle.steps.specs.declared.Stepped.{Stepped}
 use Rattle.steps.specs.declared.Stepped.TheVariants.{Refused, Done}
 use borrow.Author.Rules.{rules}
+use Rattle.machine.specs.Words.{lent}
+use Rattle.steps.specs.Transition.{env}
 use Rattle.transition.proofs.after_transition.Goals as goal
 
 unmoved : (E : Env) (x : Stepped) → after_transition E false x ≡ x
@@ -26,4 +28,6 @@ returns-in-Done c =
 
 pub returns : goal.returns
 returns c =
-    rw c.if-falls.false (sym (unmoved _ _))
+    let a = c.args in
+    rw c.if-falls.false
+    (sym (unmoved (env a.rows.now a.transitions.now (lent a.chances.now a.values.now a.words.now) a.c) _))

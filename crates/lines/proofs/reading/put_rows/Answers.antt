@@ -84,8 +84,8 @@ loop-i-preserved c =
       omega arith,
       next_at a.size l.i l.at l.invariant.1,
       next_at a.words l.i l.row l.invariant.2,
-      same l.table r.new.1.1.0 l.row (omega arith) r.auto.1.1.0 ∙ l.invariant.3,
-      one_row a.text.now a.words a.size l.i s.requires.0 a.table.now l.table r.new.1.1.0 l.at _ l.row l.invariant.1 l.invariant.2 refl line l.invariant.4 r.ensures,
+      same l.table r.new.row l.row (omega arith) r.auto.row ∙ l.invariant.3,
+      one_row a.text.now a.words a.size l.i s.requires.0 a.table.now l.table r.new.row l.at _ l.row l.invariant.1 l.invariant.2 refl line l.invariant.4 r.ensures,
     )
 
 pub shape_of-table : goal.shape_of-table

@@ -11,11 +11,11 @@ pub shape_of-line : goal.shape_of-line
 shape_of-line c =
     let p = c.put_number in
     let q = c.put_numbers in
-    simp length-set (same p.new.0 q.new.0 4 (omega (arith, p.auto.0)) q.auto.0 ∙ p.auto.0)
+    simp length-set (same p.new.line q.new.line 4 (omega (arith, p.auto.line)) q.auto.line ∙ p.auto.line)
 
 pub returns : goal.returns
 returns c =
     let a = c.args in
     let p = c.put_number in
     let q = c.put_numbers in
-    lined a.kind a.row.now a.line.now q.new.0 (omega arith) p.auto.0 p.ensures q.ensures
+    lined a.kind a.row.now a.line.now q.new.line (omega arith) p.auto.line p.ensures q.ensures

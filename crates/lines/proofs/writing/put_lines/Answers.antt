@@ -37,7 +37,9 @@ slice_bounds-put_line-count-in-loop-i c =
     omega (arith, place a.size c.loop-i.i a.n (omega arith))
 
 pub slice_bounds-put_line-start-in-loop-i : goal.slice_bounds-put_line-start-in-loop-i
-slice_bounds-put_line-start-in-loop-i c = sub-put-line-2 c
+slice_bounds-put_line-start-in-loop-i c =
+    let a = c.args in
+    omega (arith, place a.size c.loop-i.i a.n (omega arith))
 
 pub put_line-requires : goal.put_line-requires
 put_line-requires c =
@@ -61,8 +63,8 @@ loop-i-preserved c =
       omega arith,
       rw (add-one, mul-suc) (omega arith),
       rw (add-one, mul-suc) (omega arith),
-      same l.sheet p.new.1.1.0 l.at (omega arith) p.auto.1.1.0 ∙ l.invariant.3,
-      one_line a.kind a.words a.table.now a.sheet.now l.sheet p.new.1.1.0 l.row a.size l.at l.i
+      same l.sheet p.new.line l.at (omega arith) p.auto.line ∙ l.invariant.3,
+      one_line a.kind a.words a.table.now a.sheet.now l.sheet p.new.line l.row a.size l.at l.i
           l.invariant.1
           (omega arith)
           (omega arith)

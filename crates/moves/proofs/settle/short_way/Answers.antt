@@ -8,23 +8,23 @@ use Rattle.moves.proofs.settle.short_way.Goals as goal
 pub returns-in_default : goal.returns-in_default
 unfolding short
 returns-in_default c =
-    let enum_told = c.enum_told-1 in
-    rw enum_told.given.1
+    let enum_told = c.in_default in
+    rw enum_told.is
 
 pub returns-then-next-eq-STATE_END : goal.returns-then-next-eq-STATE_END
 unfolding short
 returns-then-next-eq-STATE_END c =
     let if1 = c.if-next-eq-STATE_END in
-    let chosen = c.chosen-1 in
-    rw (chosen.given.1, eq-eqb _ _ if1.true)
+    let chosen = c.in-State in
+    rw (chosen.is, eq-eqb _ _ if1.true)
 
 pub returns-then-next-eq-STATE_SIGNAL : goal.returns-then-next-eq-STATE_SIGNAL
 unfolding short
 returns-then-next-eq-STATE_SIGNAL c =
     let if2 = c.if-next-eq-STATE_SIGNAL in
     let if1 = c.if-next-eq-STATE_END in
-    let chosen = c.chosen-1 in
-    rw (chosen.given.1, ne_eqb _ _ if1.false, eq-eqb _ _ if2.true)
+    let chosen = c.in-State in
+    rw (chosen.is, ne_eqb _ _ if1.false, eq-eqb _ _ if2.true)
 
 pub returns-then-may_fall : goal.returns-then-may_fall
 unfolding short
@@ -33,8 +33,8 @@ returns-then-may_fall c =
     let may-fall = c.may_fall in
     let if2 = c.if-next-eq-STATE_SIGNAL in
     let if1 = c.if-next-eq-STATE_END in
-    let chosen = c.chosen-1 in
-    rw (chosen.given.1, ne_eqb _ _ if1.false, ne_eqb _ _ if2.false, sym may-fall.ensures ∙ if3.true)
+    let chosen = c.in-State in
+    rw (chosen.is, ne_eqb _ _ if1.false, ne_eqb _ _ if2.false, sym may-fall.ensures ∙ if3.true)
 
 pub returns : goal.returns
 unfolding short
@@ -45,5 +45,5 @@ returns c =
     let may-fall = c.may_fall in
     let if2 = c.if-next-eq-STATE_SIGNAL in
     let if1 = c.if-next-eq-STATE_END in
-    let chosen = c.chosen-1 in
-    rw (chosen.given.1, ne_eqb _ _ if1.false, ne_eqb _ _ if2.false, sym may-fall.ensures ∙ if3.false) (rw state-row.ensures at settle.ensures)
+    let chosen = c.in-State in
+    rw (chosen.is, ne_eqb _ _ if1.false, ne_eqb _ _ if2.false, sym may-fall.ensures ∙ if3.false) (rw state-row.ensures at settle.ensures)

@@ -9,4 +9,4 @@ returns c =
     let m = c.lines-machines.ensures in
     let s = c.lines-states.ensures in
     let t = c.lines-transitions.ensures in
-    record { is = formed a.sheet.now _ _ _ m.0 s.0 t.0 t.1; inside = formed_inside a.sheet.now _ _ _ m.1 s.1 t.1 }
+    record { is = formed a.sheet.now _ _ _ m.is s.is t.is t.inside; inside = formed_inside a.sheet.now _ _ _ m.inside s.inside t.inside }
