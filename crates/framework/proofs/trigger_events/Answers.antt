@@ -24,8 +24,8 @@ returns-in-Refused c =
     let es = args.events.now in
     let ran = each (event_turn T D es) (length es / 2) 0 (begin args.fw args.time) in
     let stops = stopped_is (entered args.fw) ran _ _
-    run-events.ensures.0 c.in-Refused.is in
-    record { is = rw stops (rw stops at run-events.ensures.0); keeps = run-events.ensures.1 }
+    run-events.ensures.is c.in-Refused.is in
+    record { is = rw stops (rw stops at run-events.ensures.is); keeps = run-events.ensures.keeps }
 
 pub returns-then-s-eq0 : goal.returns-then-s-eq0
 unfolding trigger_events signals
@@ -39,8 +39,8 @@ returns-then-s-eq0 c =
     let es = args.events.now in
     let ran = each (event_turn T D es) (length es / 2) 0 (begin args.fw args.time) in
     let ends = complete_is (entered args.fw) ran _
-    run-events.ensures.0 enum-told2.is in
-    record { is = rw (ends, eq-eqb _ _ c.if-s-eq0.true) (rw ends at run-events.ensures.0); keeps = run-events.ensures.1 }
+    run-events.ensures.is enum-told2.is in
+    record { is = rw (ends, eq-eqb _ _ c.if-s-eq0.true) (rw ends at run-events.ensures.is); keeps = run-events.ensures.keeps }
 
 pub returns-in-Refused-last : goal.returns-in-Refused-last
 unfolding trigger_events
@@ -48,7 +48,7 @@ returns-in-Refused-last c =
     let last = c.in-Refused-last in
     let run-signals = c.run_signals-heard in
     let c₁ = c in
-    let enum-told2 = c₁.enum_told-in-Complete-1 in
+    let enum-told2 = c₁.in-Complete in
     let run-events = c₁.run_events-ran in
     let c₂ = c₁ in
     let args = c₂.args in
@@ -57,9 +57,9 @@ returns-in-Refused-last c =
     let es = args.events.now in
     let ran = each (event_turn T D es) (length es / 2) 0 (begin args.fw args.time) in
     let ends = complete_is (entered args.fw) ran _
-    run-events.ensures.0 enum-told2.given.1 in
+    run-events.ensures.is enum-told2.is in
     let stops = stopped_is (run_of run-events.result) (signals T D (run_of run-events.result)) _ _
-    run-signals.ensures.0 last.is in
+    run-signals.ensures.is last.is in
     record { is = rw (ends, stops) c.stopped.ensures; keeps = ap (λ (r : Ran). r.framework.machines) c.stopped.ensures }
 
 pub returns-in-Complete-last : goal.returns-in-Complete-last
@@ -67,7 +67,7 @@ unfolding trigger_events
 returns-in-Complete-last c =
     let run-signals = c.run_signals-heard in
     let c₁ = c in
-    let enum-told2 = c₁.enum_told-in-Complete-1 in
+    let enum-told2 = c₁.in-Complete in
     let run-events = c₁.run_events-ran in
     let c₂ = c₁ in
     let args = c₂.args in
@@ -76,7 +76,7 @@ returns-in-Complete-last c =
     let es = args.events.now in
     let ran = each (event_turn T D es) (length es / 2) 0 (begin args.fw args.time) in
     let ends = complete_is (entered args.fw) ran _
-    run-events.ensures.0 enum-told2.given.1 in
+    run-events.ensures.is enum-told2.is in
     let done = complete_is (run_of run-events.result) (signals T D (run_of run-events.result)) _
-    run-signals.ensures.0 c.in-Complete-last.is in
-    record { is = rw (ends, done) (rw done at run-signals.ensures.0); keeps = run-signals.ensures.1 ∙ run-events.ensures.1 }
+    run-signals.ensures.is c.in-Complete-last.is in
+    record { is = rw (ends, done) (rw done at run-signals.ensures.is); keeps = run-signals.ensures.keeps ∙ run-events.ensures.keeps }

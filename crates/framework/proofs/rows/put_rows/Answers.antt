@@ -29,7 +29,7 @@ overflow_add-at c =
     let c₁ = c in
     let args = c₁.args in
     let pre = c₁.requires in
-    let short = row_short loop.m (get_or args.t1 loop.m no_action) in
+    let short = row_short loop.m (get_or args.actions loop.m no_action) in
     omega (arith, put-row.ensures.0, short, loop-test.true, loop.invariant.2, pre.0)
 
 pub loop-m-preserved : goal.loop-m-preserved
@@ -40,14 +40,14 @@ loop-m-preserved c =
     let c₁ = c in
     let args = c₁.args in
     let pre = c₁.requires in
-    let a = args.t1 in
+    let a = args.actions in
     let m = loop.m in
     let fits : loop.at ≤ length loop.out = omega (arith, loop-test.true, loop.invariant.2, loop.invariant.3, pre.1) in (
       omega (arith, loop-test.true),
       omega (arith, put-row.ensures.0, rows_longer a m, loop.invariant.1),
       omega (arith, put-row.ensures.0, row_short m (get_or a m no_action), loop.invariant.2),
-      same loop.out put-row.new.0 loop.at fits put-row.auto.0 ∙ loop.invariant.3,
-      row_written a m args.out.now loop.out put-row.new.0 loop.at loop.invariant.1 loop.invariant.4
+      same loop.out put-row.new.row loop.at fits put-row.auto.row ∙ loop.invariant.3,
+      row_written a m args.out.now loop.out put-row.new.row loop.at loop.invariant.1 loop.invariant.4
           put-row.ensures.1,
     )
 
@@ -59,6 +59,6 @@ returns c =
     let loop = c.loop-m in
     let args = c.args in
     let e : loop.m ≡ args.count = omega arith in (
-      ap (λ (n : ℕ). n / 6) (loop.invariant.1 ∙ ap (λ (n : ℕ). length (action_rows args.t1 n)) e),
-      loop.invariant.4 ∙ ap (λ (n : ℕ). written (action_rows args.t1 n) args.out.now) e,
+      ap (λ (n : ℕ). n / 6) (loop.invariant.1 ∙ ap (λ (n : ℕ). length (action_rows args.actions n)) e),
+      loop.invariant.4 ∙ ap (λ (n : ℕ). written (action_rows args.actions n) args.out.now) e,
     )
