@@ -11,12 +11,12 @@ pub slice_bounds-put_words-end : goal.slice_bounds-put_words-end
 slice_bounds-put_words-end c =
     let r = c.read_full in
     let b = c.large_buffer-bytes in
-    simp (length-append, length-drop) (omega (arith, b.ensures, simp length-take at r.auto.1.0))
+    simp (length-append, length-drop) (omega (arith, b.ensures, simp length-take at r.auto.buf))
 
 pub put_words-requires : goal.put_words-requires
 put_words-requires c =
     let r = c.read_full in
     let b = c.large_buffer-bytes in (
-      simp (length-append, length-drop) (omega (arith, b.ensures, simp length-take at r.auto.1.0)),
+      simp (length-append, length-drop) (omega (arith, b.ensures, simp length-take at r.auto.buf)),
       simp (length-take, length-drop) (omega arith),
     )

@@ -53,12 +53,12 @@ one_call-r-requires c =
 
 pub slice_bounds-text-end : goal.slice_bounds-text-end
 slice_bounds-text-end c =
-    omega (arith, c.one_call-r.ensures.text.1.1, c.one_call-r.auto.1.1.1.1.1.0, c.loop-i.invariant.1)
+    omega (arith, c.one_call-r.ensures.size.1, c.one_call-r.auto.line, c.loop-i.invariant.1)
 
 pub slice_bounds-hand_over-end : goal.slice_bounds-hand_over-end
 slice_bounds-hand_over-end c =
     simp length-take
-    (omega (arith, c.one_call-r.ensures.text.1.1, c.one_call-r.auto.1.1.1.1.1.0, c.loop-i.invariant.1))
+    (omega (arith, c.one_call-r.ensures.size.1, c.one_call-r.auto.line, c.loop-i.invariant.1))
 
 pub hand_over-h-requires : goal.hand_over-h-requires
 hand_over-h-requires c =
@@ -69,9 +69,9 @@ hand_over-h-requires c =
     let p = t in
     let ws = p.args.words.now in
     let few = calls_few ws p.requires.0 in (
-      part (printed ws (l.i + 1) l.s) _ l.text _ (drop l.h.from (input_text p.args.input.now)) o.result.bytes o.ensures.1.0 o.ensures.1.1.0
+      part (printed ws (l.i + 1) l.s) _ l.text _ (drop l.h.from (input_text p.args.input.now)) o.result.bytes o.ensures.text o.ensures.size.0
           (turn ws _ w.result l.i l.s t.loop-i-test.true l.invariant.6),
-      simp length-take (omega (arith, o.ensures.1.1.1, l.invariant.5, t.loop-i-test.true, w.ensures, few, p.requires.1)),
+      simp length-take (omega (arith, o.ensures.size.1, l.invariant.5, t.loop-i-test.true, w.ensures, few, p.requires.1)),
     )
 
 pub overflow_add-i-in-loop-i : goal.overflow_add-i-in-loop-i
@@ -95,15 +95,15 @@ loop-i-preserved c =
     let ws = p.args.words.now in
     let text = input_text p.args.input.now in
     let e = turn ws (drop l.h.from text) w.result l.i l.s t.loop-i-test.true l.invariant.6 in
-    let n : o.result.stands.next ≡ call_at ws (l.i + 1) = next_is ws l.i l.s o.result.stands o.ensures.0 l.invariant.2 in (
+    let n : o.result.stands.next ≡ call_at ws (l.i + 1) = next_is ws l.i l.s o.result.stands o.ensures.stands l.invariant.2 in (
       omega (arith, t.loop-i-test.true),
-      o.auto.1.1.1.1.1.0 ∙ l.invariant.1,
+      o.auto.line ∙ l.invariant.1,
       n,
-      o.ensures.1.1.2,
-      o.ensures.1.1.3,
-      omega (arith, o.ensures.1.1.1, l.invariant.5, simp length-take at c.hand_over-h.ensures),
-      behind (printed ws (l.i + 1) l.s) _ l.text _ text l.h.from o.result.bytes _ o.ensures.1.0 o.ensures.1.1.0 e c.hand_over-h.ensures
-          ∙ ap (λ (x : Standing). calls_text ws (w.result - (l.i + 1)) (l.i + 1 + 1) x) (sym o.ensures.0),
+      o.ensures.size.2,
+      o.ensures.size.3,
+      omega (arith, o.ensures.size.1, l.invariant.5, simp length-take at c.hand_over-h.ensures),
+      behind (printed ws (l.i + 1) l.s) _ l.text _ text l.h.from o.result.bytes _ o.ensures.text o.ensures.size.0 e c.hand_over-h.ensures
+          ∙ ap (λ (x : Standing). calls_text ws (w.result - (l.i + 1)) (l.i + 1 + 1) x) (sym o.ensures.stands),
     )
 
 pub returns : goal.returns

@@ -14,7 +14,7 @@ use Rattle.linkrun.proofs.opening.Goals as goal
 pub slice_bounds-hand_over-end : goal.slice_bounds-hand_over-end
 slice_bounds-hand_over-end c =
     let t = c.call_text-n in
-    simp length-take (omega (arith, t.ensures.0, t.auto.0))
+    simp length-take (omega (arith, t.ensures.0, t.auto.out))
 
 pub hand_over-h-requires : goal.hand_over-h-requires
 hand_over-h-requires c =
@@ -28,7 +28,7 @@ hand_over-h-requires c =
     let is = no_rows 0 refusal _ _ _ t.result t.ensures.1 in
     let size : t.result ≡ length (call_text 0 refusal 0 []) = t.ensures.0 ∙ sym (length-call_text 0 refusal 0 []) in
     let all : drop none.result.from text ≡ text = ap (λ (k : ℕ). drop k text) none.ensures in
-    let left = all ∙ p.requires.0 ∙ opens p.args.words.now o.result o.ensures.0 in (
+    let left = all ∙ p.requires.0 ∙ opens p.args.words.now o.result o.ensures.is in (
       part (call_text 0 refusal 0 []) _ _ _ (drop none.result.from text) t.result is size left,
       simp length-take (omega (arith, none.ensures, t.ensures.0)),
     )
@@ -45,7 +45,7 @@ returns-then-started-ne0 c =
     let is = no_rows 0 refusal _ _ _ t.result t.ensures.1 in
     let size : t.result ≡ length (call_text 0 refusal 0 []) = t.ensures.0 ∙ sym (length-call_text 0 refusal 0 []) in
     let all : drop none.result.from text ≡ text = ap (λ (k : ℕ). drop k text) none.ensures in
-    let left = all ∙ p.requires.0 ∙ opens_refused p.args.words.now o.result o.ensures.0 c.if-started-ne0.true in
+    let left = all ∙ p.requires.0 ∙ opens_refused p.args.words.now o.result o.ensures.is c.if-started-ne0.true in
     behind (call_text 0 refusal 0 []) [] _ _ text none.result.from t.result _ is size left c.hand_over-h.ensures
 
 pub calls-requires : goal.calls-requires
@@ -60,16 +60,16 @@ calls-requires c =
     let is = no_rows 0 refusal _ _ _ t.result t.ensures.1 in
     let size : t.result ≡ length (call_text 0 refusal 0 []) = t.ensures.0 ∙ sym (length-call_text 0 refusal 0 []) in
     let all : drop none.result.from text ≡ text = ap (λ (k : ℕ). drop k text) none.ensures in
-    let left = all ∙ p.requires.0 ∙ opens_accepted p.args.words.now o.result o.ensures.0 c.if-started-ne0.false in
+    let left = all ∙ p.requires.0 ∙ opens_accepted p.args.words.now o.result o.ensures.is c.if-started-ne0.false in
     let further = c.hand_over-h.ensures in
-    let s = at_first p.args.words.now o.result o.ensures.0 in (
+    let s = at_first p.args.words.now o.result o.ensures.is in (
       p.requires.1,
       p.requires.2,
       p.requires.3,
       p.requires.4,
       s.0,
       omega (arith, s.1),
-      o.ensures.1,
+      o.ensures.within,
       omega (arith, none.ensures, t.ensures.0, simp length-take at further),
       behind (call_text 0 refusal 0 []) _ _ _ text none.result.from t.result _ is size left further,
     )

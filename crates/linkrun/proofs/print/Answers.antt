@@ -16,7 +16,7 @@ use Rattle.linkrun.proofs.print.Goals as goal
 pub slice_bounds-hand_over-end : goal.slice_bounds-hand_over-end
 slice_bounds-hand_over-end c =
     let t = c.call_text-k in
-    simp length-take (omega (arith, t.ensures.0, t.auto.0))
+    simp length-take (omega (arith, t.ensures.0, t.auto.out))
 
 pub hand_over-requires : goal.hand_over-requires
 hand_over-requires c =

@@ -31,7 +31,7 @@ slice_bounds-chances-end c =
     let w = c.chance_words-c in
     let p = c in
     let few = tapes_inside p.args.words.now p.requires.1 in
-    omega (arith, few, ap length w.ensures, p.requires.2, c.put_chances.auto.1.0)
+    omega (arith, few, ap length w.ensures, p.requires.2, c.put_chances.auto.out)
 
 pub slice_bounds-opening-end : goal.slice_bounds-opening-end
 slice_bounds-opening-end c =
@@ -39,7 +39,7 @@ slice_bounds-opening-end c =
     let w = c.chance_words-c in
     let p = c in
     let few = tapes_inside p.args.words.now p.requires.1 in
-    simp length-take (omega (arith, few, ap length w.ensures, p.requires.2, c.put_chances.auto.1.0))
+    simp length-take (omega (arith, few, ap length w.ensures, p.requires.2, c.put_chances.auto.out))
 
 pub slice_bounds-values-end : goal.slice_bounds-values-end
 slice_bounds-values-end c =
@@ -47,7 +47,7 @@ slice_bounds-values-end c =
     let w = c.chance_words-c in
     let p = c in
     let few = tapes_inside p.args.words.now p.requires.1 in
-    omega (arith, few, ap length v.ensures, p.requires.2, c.put_values.auto.1.0)
+    omega (arith, few, ap length v.ensures, p.requires.2, c.put_values.auto.out)
 
 pub slice_bounds-opening-end-2 : goal.slice_bounds-opening-end-2
 slice_bounds-opening-end-2 c =
@@ -55,7 +55,7 @@ slice_bounds-opening-end-2 c =
     let w = c.chance_words-c in
     let p = c in
     let few = tapes_inside p.args.words.now p.requires.1 in
-    simp length-take (omega (arith, few, ap length v.ensures, p.requires.2, c.put_values.auto.1.0))
+    simp length-take (omega (arith, few, ap length v.ensures, p.requires.2, c.put_values.auto.out))
 
 pub opening-requires : goal.opening-requires
 opening-requires c =

@@ -11,21 +11,21 @@ overflow_mul-m c =
     let a = c.args in
     let f = c.read-r in
     let i = read_inside a.sheet.now a.machines.now a.states.now a.transitions.now _ _ _ _ f.ensures in
-    let k = f.auto.0 in omega arith
+    let k = f.auto.machines in omega arith
 
 pub overflow_mul-s : goal.overflow_mul-s
 overflow_mul-s c =
     let a = c.args in
     let f = c.read-r in
     let i = read_inside a.sheet.now a.machines.now a.states.now a.transitions.now _ _ _ _ f.ensures in
-    let k = f.auto.1.0 in omega arith
+    let k = f.auto.states in omega arith
 
 pub overflow_mul-t : goal.overflow_mul-t
 overflow_mul-t c =
     let a = c.args in
     let f = c.read-r in
     let i = read_inside a.sheet.now a.machines.now a.states.now a.transitions.now _ _ _ _ f.ensures in
-    let k = f.auto.1.1.0 in omega arith
+    let k = f.auto.transitions in omega arith
 
 pub slice_bounds-check_tables-end : goal.slice_bounds-check_tables-end
 slice_bounds-check_tables-end c =

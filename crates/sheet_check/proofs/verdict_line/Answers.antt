@@ -8,7 +8,7 @@ use Rattle.sheet_check.proofs.verdict_line.Goals as goal
 pub shape_of-line : goal.shape_of-line
 shape_of-line c =
     simp length-set
-    (c.put_number-5.auto.0 ∙ c.put_number-4.auto.0 ∙ c.put_number-3.auto.0 ∙ c.put_number-2.auto.0 ∙ c.put_number.auto.0)
+    (c.put_number-5.auto.line ∙ c.put_number-4.auto.line ∙ c.put_number-3.auto.line ∙ c.put_number-2.auto.line ∙ c.put_number.auto.line)
 
 pub returns : goal.returns
 returns c =
