@@ -1,4 +1,4 @@
-//! Finds the archive that `rt staticlib columns_link` writes: in the directory that MAYBENOT_ARCHIVE_DIR
+//! Finds the archive that `rt lib` in crates/columns_link writes: in the directory that MAYBENOT_ARCHIVE_DIR
 //! names, else where it is put in this repository. Where OTHER_ARCHIVE names another one, links that too:
 //! its functions are then called `other_` and their name.
 
@@ -11,12 +11,12 @@ fn main() {
     let dir = env::var_os("MAYBENOT_ARCHIVE_DIR").map_or_else(
         || {
             let here = env::var_os("CARGO_MANIFEST_DIR").expect("set by cargo");
-            PathBuf::from(here).join("../../target/staticlib")
+            PathBuf::from(here).join("../../crates/columns_link/out")
         },
         PathBuf::from,
     );
     let archive = dir.join("libcolumns_link.a");
-    assert!(archive.is_file(), "{archive:?} is not there: `rt staticlib columns_link` writes it");
+    assert!(archive.is_file(), "{archive:?} is not there: `rt lib` in crates/columns_link writes it");
     println!("cargo:rerun-if-changed={}", archive.display());
     println!("cargo:rustc-link-search=native={}", dir.display());
     println!("cargo:rustc-link-lib=static=columns_link");

@@ -1,12 +1,12 @@
 #!/usr/bin/env bash
 # Tests the C interface, the header and the archive, with every C and C++ compiler that is here. The archive is that of the directory
-# MAYBENOT_ARCHIVE_DIR, else of target/staticlib.
+# MAYBENOT_ARCHIVE_DIR, else of crates/sender/out.
 set -euo pipefail
 cd "$(dirname "$0")/../.."
 out=$(mktemp -d)
 trap 'rm -rf "$out"' EXIT
 warnings="-O2 -Wall -Wextra -Werror -pedantic -Ibindings/c"
-archives=${MAYBENOT_ARCHIVE_DIR:-target/staticlib}
+archives=${MAYBENOT_ARCHIVE_DIR:-crates/sender/out}
 link="-L$archives -lsender"
 
 fail() { echo "bindings/c: $*"; exit 1; }

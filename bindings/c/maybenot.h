@@ -1,4 +1,4 @@
-/* The framework as a C library: libsender.a, built by `rt staticlib sender` into target/staticlib/, for x86-64 Linux.
+/* The framework as a C library: libsender.a, built by `rt lib` in crates/sender into its out/, for x86-64 Linux.
  *
  * Every function is total: any words, floats, bytes and lengths may be lent, and what does not fit is refused by number. A call
  * that refuses changes nothing: whatever was lent is as it went in, and all counts of the answer are 0. Nothing is kept between

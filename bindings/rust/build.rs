@@ -1,4 +1,4 @@
-//! Finds the archive: in the directory that MAYBENOT_ARCHIVE_DIR names, else where `rt staticlib`
+//! Finds the archive: in the directory that MAYBENOT_ARCHIVE_DIR names, else where `rt lib`
 //! puts it in this repository.
 
 use std::env;
@@ -37,7 +37,7 @@ fn archive_dir() -> Result<PathBuf, String> {
         }
         None => {
             let manifest = env::var_os("CARGO_MANIFEST_DIR").expect("set by cargo");
-            PathBuf::from(manifest).join("../../target/staticlib")
+            PathBuf::from(manifest).join("../../crates/sender/out")
         }
     };
     let archive = dir.join("libsender.a");
@@ -47,7 +47,7 @@ fn archive_dir() -> Result<PathBuf, String> {
     }
     Err(format!(
         "{} is not there.\n\
-         Run `rt staticlib sender` at the root of the repository to build it,\n\
+         Run `rt lib` in crates/sender of the repository to build it,\n\
          or set MAYBENOT_ARCHIVE_DIR to the directory that holds libsender.a.",
         archive.display()
     ))

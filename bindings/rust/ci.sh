@@ -1,5 +1,5 @@
 #!/usr/bin/env bash
-# Tests the Rust crate against the archive: that of the directory MAYBENOT_ARCHIVE_DIR, else of target/staticlib.
+# Tests the Rust crate against the archive: that of the directory MAYBENOT_ARCHIVE_DIR, else of crates/sender/out.
 set -euo pipefail
 cd "$(dirname "$0")"
 out=$(mktemp -d)
@@ -23,7 +23,7 @@ check_version() {
   sed -i '/^\[dev-dependencies\]$/,/^$/d' "$out/other/Cargo.toml"
   sed -i "s/maybenot_interface_$version/maybenot_interface_$other/" "$out/other/src/sys.rs"
   for profile in dev release; do
-    if MAYBENOT_ARCHIVE_DIR=${MAYBENOT_ARCHIVE_DIR:-$PWD/../../target/staticlib} CARGO_TARGET_DIR=$out/target \
+    if MAYBENOT_ARCHIVE_DIR=${MAYBENOT_ARCHIVE_DIR:-$PWD/../../crates/sender/out} CARGO_TARGET_DIR=$out/target \
       cargo build --offline --profile $profile --manifest-path "$out/other/Cargo.toml" --example sender > "$out/log" 2>&1; then
       echo "bindings/rust: a binding of another version links ($profile)"
       exit 1

@@ -67,7 +67,7 @@ fn a_missing_archive_is_an_error() {
     std::fs::create_dir_all(&dir).expect("a directory");
     let error = run(&[("MAYBENOT_ARCHIVE_DIR", dir.to_str().expect("text"))]).expect_err("missing");
     assert!(error.starts_with(&format!("{} is not there.\n", dir.join("libsender.a").display())));
-    assert!(error.contains("`rt staticlib sender`"), "{error}");
+    assert!(error.contains("`rt lib` in crates/sender"), "{error}");
 }
 
 #[test]

@@ -1,2 +1,0 @@
--- What the walks cite: a `&` to an empty slice.
-mod Empty
