@@ -12,7 +12,7 @@ use lib.Dec.{eqb, ltb, leb, lit<}
 use borrow.Author.Tests.{eqb-true, eqb-false, leb-true, ltb-true, ltb-false, eq-eqb, ne_eqb, le-leb, lt-ltb, le-ltb}
 use Rattle.columns.specs.Digits.{read_back}
 use Rattle.columns.specs.Columns.{right}
-use Rattle.columns.specs.ByColumn.{mark, rests, length-rests, read_rests, right_ends}
+use Rattle.columns.proofs.ByColumn.{mark, rests, length-rests, read_rests, right_ends}
 use Rattle.cells.specs.Cells.{word_columns, is_cell, cell_of}
 use Rattle.cells.specs.Laws.{cell_columns, columns_cell, spells}
 use Rattle.cells.specs.Digits.{is_digit, column_of, last_of, no_cell}

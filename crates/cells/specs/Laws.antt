@@ -12,7 +12,7 @@ use Rattle.std.proofs.Math.Seq.{drop-drop}
 use Rattle.machine.specs.Same.{same, same_refl, same_true}
 use Rattle.columns.specs.Digits.{read_back}
 use Rattle.columns.specs.Columns.{right}
-use Rattle.columns.specs.Fits.{below_fits, reads_back}
+use Rattle.columns.proofs.Fits.{below_fits, reads_back}
 use Rattle.cells.specs.Cells.{word_columns, each, leading, is_cell}
 
 -- ---- each

@@ -8,7 +8,7 @@ use native.Mathlib.Nat.{mul-suc, mul-zero, mul-le-mul_left}
 use lib.ListN.{length, take, drop, get_or}
 use lib.Seq.{take-length}
 use Rattle.columns.specs.Columns.{right, cell_in, rights}
-use Rattle.columns.specs.Line.{Upto, start, cell}
+use Rattle.columns.proofs.Line.{Upto, start, cell}
 
 module _ (w : ℕ) where
   -- one more behind those before it

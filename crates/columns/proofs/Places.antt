@@ -8,8 +8,8 @@ use lib.ListN.{length, take, drop, set, get_or, replicate, length-set, length-ap
 use lib.Seq.{set_split, length-take-le, drop_at, take_at, drop-cons, set_at, take-set-le}
 use Rattle.columns.specs.Digits.{digits}
 use Rattle.columns.specs.Columns.{last_digits, cell_in}
-use Rattle.columns.specs.Fits.{right_is, length_last}
-use Rattle.columns.specs.ByColumn.{last_none, last_one, last_more}
+use Rattle.columns.proofs.Fits.{right_is, length_last}
+use Rattle.columns.proofs.ByColumn.{last_none, last_one, last_more}
 use Rattle.columns.specs.Parts.{spaces_in, digits_in}
 
 -- ---- spaces

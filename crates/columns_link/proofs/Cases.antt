@@ -9,7 +9,7 @@ use lib.ListN.{length, drop}
 use lib.Dec.{leb}
 use borrow.Author.Tests.{le-leb, lt-leb, leb-true, leb-false}
 use Rattle.columns.specs.Columns.{rights}
-use Rattle.columns.specs.Fits.{length-rights}
+use Rattle.columns.proofs.Fits.{length-rights}
 use Rattle.columns_link.specs.Put.{Put}
 
 -- as many numbers as the quotient have room

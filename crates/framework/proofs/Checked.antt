@@ -12,11 +12,11 @@ use Rattle.machine.specs.Source.{Source}
 use Rattle.machine.specs.declared.source.Place.{Place}
 use Rattle.tables.specs.Machine.{tables_refusal}
 use Rattle.outside.specs.Outside.{draws_outside}
-use Rattle.tables.specs.Valid.Laws.{zero_valid}
+use Rattle.tables.proofs.Valid.Laws.{zero_valid}
 use Rattle.steps.specs.Events.{Tables, num_machines}
 use Rattle.steps.specs.Framework.{or_else, rows_in, states_fit, ended_in, fits_tables, kinds_fit, events_fit, batch_refusal, trigger_events, refused, concluded, batch}
 use Rattle.steps.specs.Words.{outside_refused}
-use Rattle.steps.specs.Fits.{fits_says}
+use Rattle.steps.proofs.Fits.{fits_says}
 use Rattle.steps.specs.declared.Framework.{Framework}
 use Rattle.events.proofs.All.{bool_cases}
 

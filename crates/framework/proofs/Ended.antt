@@ -10,7 +10,7 @@ use lib.ListN.{get_or}
 use Rattle.machine.specs.Constants.{state_end, num_states}
 use Rattle.steps.specs.Events.{Tables, no_runtime, runtime_at, machine_word}
 use Rattle.steps.specs.Framework.{states_fit, has_ended, ended_in}
-use Rattle.steps.specs.Ended.{ended_most}
+use Rattle.steps.proofs.Ended.{ended_most}
 use Rattle.steps.specs.declared.MachineRuntime.{MachineRuntime}
 use Rattle.steps.specs.declared.Framework.{Framework}
 

@@ -8,7 +8,7 @@ use lib.Dec.{eqb}
 use lib.ListN.{length, take, drop, get_or, length-drop}
 use lib.Seq.{take_all}
 use Rattle.columns.specs.Columns.{right}
-use Rattle.columns.specs.ByColumn.{rests, right_ends}
+use Rattle.columns.proofs.ByColumn.{rests, right_ends}
 use Rattle.machine.specs.Same.{same}
 use Rattle.cells.specs.Cells.{word_columns, leading, is_cell}
 use Rattle.lines.specs.Lines.{kind_columns, line_bytes, is_line}

@@ -8,8 +8,8 @@ use lib.ListN.{length, take, drop, set, length-drop}
 use lib.Seq.{length-take-le}
 use Rattle.machine.specs.Part.{through, from, over_part}
 use Rattle.columns.specs.Columns.{cell_in}
-use Rattle.columns.specs.Fits.{length-rights}
-use Rattle.columns.specs.Line.{Upto, start, more, cell, feed}
+use Rattle.columns.proofs.Fits.{length-rights}
+use Rattle.columns.proofs.Line.{Upto, start, more, cell, feed}
 use Rattle.cells.specs.Cells.{each, word_columns, cells}
 use Rattle.cells.specs.Laws.{each_more}
 use Rattle.lines.specs.Lines.{kind_columns, line_bytes, line_of}

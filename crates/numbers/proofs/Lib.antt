@@ -2,3 +2,5 @@
 mod Doubled
 mod Tests
 mod Words
+pub mod Fraction
+pub mod Round

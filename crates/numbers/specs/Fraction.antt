@@ -1,7 +1,6 @@
 -- The test of a fraction, and a fraction as a whole number. Definitions; the laws stand in `Laws`.
 pub mod Units
 pub mod Quotient
-pub mod Laws
 use Rattle.std.specs.Prelude.{ℕ, ◌*◌, ◌/◌, ◌^◌, Bool, true, false, pos, Float}
 use Rattle.std.specs.Float.{nan, inf, fin, binary64}
 use Rattle.std.specs.Float.Ieee.{up, down, div, le, of_int}

@@ -21,7 +21,7 @@ use Rattle.steps.specs.declared.Answer.{Answer}
 use Rattle.events.specs.Run.{tables}
 use Rattle.run.specs.declared.Standing.{Standing}
 use Rattle.run.specs.Run.{stand, batch_at, stands_after, printed}
-use Rattle.steps.specs.Printable as printable
+use Rattle.steps.proofs.Printable as printable
 
 -- a tape from a place on
 pub tape : (ts : List Float) (at : ℕ) → take (length ts - at) (drop at ts) ≡ drop at ts

@@ -4,12 +4,12 @@ use Rattle.std.specs.Prelude.{ℕ, ◌*◌, ◌^◌, ◌≤◌, ◌<◌, true, �
 use Rattle.std.proofs.Common.{le_trans, arith, lit<}
 use Rattle.machine.specs.Constants.{machine_max, row_words}
 use Rattle.steps.specs.Framework.{Batch}
-use Rattle.steps.specs.Printable.{RowBounds, rows_bounded, rows_few}
-use Rattle.steps.specs.Refusals.{opening_refusal_on_tapes, batch_refusal_on_tapes}
+use Rattle.steps.proofs.Printable.{RowBounds, rows_bounded, rows_few}
+use Rattle.steps.proofs.Refusals.{opening_refusal_on_tapes, batch_refusal_on_tapes}
 use Rattle.stream.specs.Stream.{padding_frac, blocking_frac, opening_time, events_of}
 use Rattle.text.specs.Words.{value_of}
 use Rattle.columns.specs.Columns.{fits}
-use Rattle.columns.specs.Fits.{below_fits}
+use Rattle.columns.proofs.Fits.{below_fits}
 use Rattle.run.specs.Run.{lent_tables, chance_tape, value_tape, opened_of, batch_at}
 use Rattle.run.specs.declared.Standing.{Standing}
 

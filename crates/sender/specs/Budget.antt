@@ -9,7 +9,7 @@ use Rattle.steps.specs.Events.{Tables}
 use Rattle.steps.specs.Framework.{Batch}
 use Rattle.steps.specs.Words.{Lent, on_tapes, on_words, opening_on, batch_on}
 use Rattle.steps.specs.Budget.{Call, answer_of, Ledger, empty, counted, returned, returns_padding, after_call, ledger, Spends, Lists, packets, Budgets}
-use Rattle.steps.specs.Budget.Theorem.{no_budget_overdrawn}
+use Rattle.steps.proofs.Budget.Theorem.{no_budget_overdrawn}
 use Rattle.steps.specs.declared.Framework.{Framework}
 use Rattle.sender.specs.Reply.{Promised, PromisedWords}
 use Rattle.sender.specs.declared.Reply.{Reply}

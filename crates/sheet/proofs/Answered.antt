@@ -11,8 +11,8 @@ use Rattle.lines.specs.Lines.{table_of}
 use Rattle.sheet.specs.Sheet.{bytes_of, sheet_of}
 use Rattle.sheet.specs.Writer.{whole_rows, write_refusal, over, Written, sheet_write, Writes}
 use Rattle.sheet.specs.Reader.{machine_lines, state_lines, transition_lines, behind_machines, behind_states, form_of, room_for, read_refusal, no_rows, Read, sheet_read, Reads}
-use Rattle.sheet.specs.RoundTrip.Form.{length-machines, length-states, length-transitions}
-use Rattle.sheet.specs.RoundTrip.Calls.{reads}
+use Rattle.sheet.proofs.RoundTrip.Form.{length-machines, length-states, length-transitions}
+use Rattle.sheet.proofs.RoundTrip.Calls.{reads}
 use Rattle.sheet.specs.declared.SheetRows.{SheetRows}
 use Rattle.sheet.specs.declared.SheetBytes.{SheetBytes}
 use Rattle.sheet.specs.declared.reading.Form.{Form}

@@ -2,3 +2,4 @@ pub mod Room
 pub mod Formed
 pub mod Written
 pub mod Answered
+pub mod RoundTrip

@@ -2,4 +2,3 @@
 pub mod Sheet
 pub mod Writer
 pub mod Reader
-pub mod RoundTrip

@@ -10,11 +10,11 @@ use borrow.Author.Tests.{eqb-true}
 use Rattle.machine.specs.Constants.{machine_words, state_words, transition_words}
 use Rattle.tables.specs.Machine.{tables_refusal}
 use Rattle.columns.specs.Columns.{cell_in}
-use Rattle.columns.specs.Line.{start, cell, feed}
+use Rattle.columns.proofs.Line.{start, cell, feed}
 use Rattle.sheet.specs.Reader.{read_refusal, Read, sheet_read, Reads}
 use Rattle.sheet.specs.Writer.{over}
-use Rattle.sheet.specs.RoundTrip.Calls.{reads}
-use Rattle.sheet.specs.RoundTrip.Form.{machines_of, states_of, transitions_of, length-machines, length-states, length-transitions}
+use Rattle.sheet.proofs.RoundTrip.Calls.{reads}
+use Rattle.sheet.proofs.RoundTrip.Form.{machines_of, states_of, transitions_of, length-machines, length-states, length-transitions}
 use Rattle.sheet.specs.declared.SheetRows.{SheetRows}
 use Rattle.sheet_check.specs.Verdict.{verdict_line, judged_line, line_length}
 

@@ -5,18 +5,6 @@
 -- "Demand 3 counts the events and returned rows of its list's accepted batches, never the framework's
 -- own numbers."
 pub mod Sums
-pub mod Invariant
-pub mod Check
-pub mod Machine
-pub mod Counts
-pub mod Runs
-pub mod Turns
-pub mod Rows
-pub mod Batches
-pub mod Opening
-pub mod Kinds
-pub mod Theorem
-pub mod Reached
 use Rattle.std.specs.Prelude.{ℕ, zero, suc, ◌+◌, ◌-◌, ◌*◌, ◌^◌, ◌≤◌, ◌<◌, List, [], ◌∷◌, Bool, true, false, cond, ◌&&◌, ◌||◌, ◌⊎◌, ◌≡◌, get_or, T, eqb, Float}
 use Rattle.std.specs.Float.{binary64}
 use Rattle.std.specs.Float.Ieee.{of_bits, lt, fits}

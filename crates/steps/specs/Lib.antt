@@ -9,13 +9,8 @@ pub mod Runs
 pub mod Draws
 pub mod Walk
 pub mod Machines
-pub mod Rows
 pub mod Targets
-pub mod Refusals
-pub mod Fits
-pub mod Printable
 pub mod Budget
-pub mod Ended
 pub mod Example
 pub mod Cases
 pub mod Worked

@@ -17,7 +17,7 @@ use Rattle.machine.specs.declared.state.Next.{Next}
 use Rattle.machine.specs.declared.state.Next.TheVariants.{State, Nothing}
 use Rattle.tables.specs.Machine.{tables_refusal}
 use Rattle.tables.specs.Valid.{Target, ValidPair, ValidState}
-use Rattle.tables.specs.Valid.Laws.{zero_valid}
+use Rattle.tables.proofs.Valid.Laws.{zero_valid}
 use Rattle.steps.specs.Events.{Tables, runtime_at, machine_word, states_of, env_of}
 use Rattle.steps.specs.Framework.{rows_in, states_fit}
 use Rattle.steps.specs.Runs.{either}

@@ -2,11 +2,6 @@
 -- pass their checks and a used distribution is drawn outside.
 pub mod Honest
 pub mod Sound
-pub mod Tapes
-pub mod Taken
-pub mod Calls
-pub mod Batches
-pub mod Openings
 use Rattle.std.specs.Prelude.{ℕ, List, Bool, cond, ◌&&◌, eqb, Float}
 use Rattle.machine.specs.Source.{Source, Telling, tapes, tapes_tell}
 use Rattle.machine.specs.Words.{words}

@@ -1,2 +1,3 @@
 mod Dists
 pub mod Parts
+pub mod Valid

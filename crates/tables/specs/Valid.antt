@@ -2,7 +2,6 @@
 -- Definitions; that they are what `tables_refusal` answers is proved in `Laws`.
 pub mod Tests
 pub mod Fields
-pub mod Laws
 use Rattle.std.specs.Prelude.{ℕ, ◌+◌, ◌*◌, ◌/◌, ◌%◌, ◌≤◌, ◌<◌, ◌≡◌, List, true, false, ◌⊎◌, length, get_or, Float}
 use Rattle.std.specs.Float.{binary32, binary64}
 use Rattle.std.specs.Float.Ieee.{of_bits, lt, le}

@@ -9,8 +9,8 @@ use lib.Seq.{drop_at, drop-drop}
 use Rattle.machine.specs.Constants.{row_words}
 use Rattle.machine.specs.Part.{through, from, from_is, over_part}
 use Rattle.columns.specs.Columns.{cell_in}
-use Rattle.columns.specs.Fits.{length-right}
-use Rattle.columns.specs.Line.{Upto, start, more, cell, feed}
+use Rattle.columns.proofs.Fits.{length-right}
+use Rattle.columns.proofs.Line.{Upto, start, more, cell, feed}
 use Rattle.text.specs.Printed.{call_line, row_line, row_in, row_lines, call_text}
 
 -- the line that is put at the front of the part from `at` on is put in the text

@@ -1,7 +1,7 @@
 use Prim.Native.Nat.{◌-◌, ◌^◌, ◌≤◌, ◌<◌}
 use mathlib.Core.Path.{◌≡◌}
 use lib.ListN.{take}
-use Rattle.columns.specs.ByColumn.{rests}
+use Rattle.columns.proofs.ByColumn.{rests}
 use Rattle.cells.proofs.cell_of.Given as goal
 
 abbrev pub invariant-loop-i : goal.invariant-loop-i

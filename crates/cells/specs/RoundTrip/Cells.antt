@@ -2,7 +2,7 @@
 use Rattle.std.specs.Prelude.{ℕ, ◌*◌, ◌^◌, ◌≤◌, ◌<◌, ◌≡◌, refl, true, List, [], ◌∷◌, ◌++◌, length, take, get_or}
 use Rattle.std.proofs.Common.{sym, ap, ◌∙◌, append-nil, arith, add-zero}
 use Rattle.columns.specs.Columns.{right, rights}
-use Rattle.columns.specs.Fits.{length-right, length-rights}
+use Rattle.columns.proofs.Fits.{length-right, length-rights}
 use Rattle.cells.specs.Cells.{each, word_columns, cells, leading, is_cell, cell_of, word_in}
 use Rattle.cells.specs.Laws.{cell_columns, columns_cell, spells}
 use Rattle.cells.specs.RoundTrip.U64.{Words, one_word}

@@ -10,7 +10,7 @@ use Rattle.std.proofs.lemmas.List.{get_or_at}
 use Rattle.std.proofs.Math.Seq.{drop-drop, drop-cons}
 use borrow.Author.Tests.{eqb-true, eq-eqb}
 use Rattle.columns.specs.Columns.{right}
-use Rattle.columns.specs.Fits.{length-right, length-rights}
+use Rattle.columns.proofs.Fits.{length-right, length-rights}
 use Rattle.machine.specs.Same.{same, same_refl, same_true}
 use Rattle.cells.specs.Cells.{word_columns, cells, leading, is_cell}
 use Rattle.cells.specs.RoundTrip.U64.{Words}

@@ -8,7 +8,7 @@ use Rattle.std.proofs.Math.Nat.{div-add-mod, div-eq_of_eq-mul_right}
 use Rattle.std.proofs.Math.ListN.{length, length-append}
 use Rattle.std.proofs.Math.Seq.{drop_at}
 use Rattle.columns.specs.Columns.{right}
-use Rattle.columns.specs.Fits.{length-right}
+use Rattle.columns.proofs.Fits.{length-right}
 use Rattle.machine.specs.Same.{same}
 use Rattle.cells.specs.Cells.{each, cells, leading}
 use Rattle.cells.specs.Laws.{length-each}

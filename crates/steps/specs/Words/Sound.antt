@@ -18,7 +18,7 @@ use Rattle.dists.specs.declared.DistType.TheVariants.{Absent, Uniform, Outside}
 use Rattle.outside.specs.Outside.{drawn_outside, draws_outside}
 use Rattle.outside.specs.Outside.Laws.{Inside, inside, outside_false}
 use Rattle.tables.specs.Valid.{ValidDist, KnownCounter, ValidCounter, ValidState}
-use Rattle.tables.specs.Valid.Laws.{zero_valid}
+use Rattle.tables.proofs.Valid.Laws.{zero_valid}
 use Rattle.tables.specs.Valid.Tests.{or_some}
 use Rattle.steps.specs.Events.{Tables, machine_word, states_of}
 use Rattle.steps.specs.Framework.{rows_in}

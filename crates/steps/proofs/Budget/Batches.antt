@@ -12,12 +12,12 @@ use Rattle.steps.specs.Framework.{begin, trigger_events, accepted, batch}
 use Rattle.steps.specs.Runs.{Ok, ok_any, ok_then, ok_map, each_ok, batch_ok}
 use Rattle.steps.specs.Machines.{none_pending}
 use Rattle.steps.specs.Budget.{Ledger, count, counted, returned, returns_padding, packets, Spends}
-use Rattle.steps.specs.Budget.Invariant.{nobody, counted_grows, Inv, inv_acts, inv_end}
-use Rattle.steps.specs.Budget.Check.{Setup, machines_of, checks}
-use Rattle.steps.specs.Budget.Machine.{is_padding, Told}
-use Rattle.steps.specs.Budget.Runs.{Frame, At, sends, num_is, Live}
-use Rattle.steps.specs.Budget.Turns.{event_ok, signals_ok}
-use Rattle.steps.specs.Budget.Rows.{returned_acts}
+use Rattle.steps.proofs.Budget.Invariant.{nobody, counted_grows, Inv, inv_acts, inv_end}
+use Rattle.steps.proofs.Budget.Check.{Setup, machines_of, checks}
+use Rattle.steps.proofs.Budget.Machine.{is_padding, Told}
+use Rattle.steps.proofs.Budget.Runs.{Frame, At, sends, num_is, Live}
+use Rattle.steps.proofs.Budget.Turns.{event_ok, signals_ok}
+use Rattle.steps.proofs.Budget.Rows.{returned_acts}
 use Rattle.steps.specs.declared.Framework.{Framework}
 
 -- ---- the lent event words, two by two

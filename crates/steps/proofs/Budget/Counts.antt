@@ -7,9 +7,9 @@ use Rattle.machine.specs.Event.{normal_sent, padding_sent, blocking_end}
 use Rattle.steps.specs.Events.{with_counts, counts_after, counted_by}
 use Rattle.steps.specs.Budget.{Ledger, plus, count, packets}
 use Rattle.steps.specs.Budget.Sums.{plus_same, plus_other}
-use Rattle.steps.specs.Budget.Invariant.{heard, kind_cases, count_other}
+use Rattle.steps.proofs.Budget.Invariant.{heard, kind_cases, count_other}
 use Rattle.steps.specs.Runs.{either}
-use Rattle.steps.specs.Budget.Machine.{Has}
+use Rattle.steps.proofs.Budget.Machine.{Has}
 use Rattle.steps.specs.declared.MachineRuntime.{MachineRuntime}
 
 -- ---- an event's counts, which no number of packets up to 2 ^ 53 saturates

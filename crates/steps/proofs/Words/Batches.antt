@@ -15,13 +15,13 @@ use Rattle.outside.specs.Outside.{draws_outside}
 use Rattle.steps.specs.Events.{Tables}
 use Rattle.steps.specs.Framework.{rows_in, fits_tables, events_fit, trigger_events, Batch, refused, concluded, batch_refusal, batch}
 use Rattle.steps.specs.Runs.{none_of}
-use Rattle.steps.specs.Refusals.{tables_most, checks_most}
+use Rattle.steps.proofs.Refusals.{tables_most, checks_most}
 use Rattle.steps.specs.Play.Laws.{Given}
 use Rattle.steps.specs.Words.{on_words, outside_refused, batch_on, BatchWords, batch_in_words, batch_words}
 use Rattle.steps.specs.Words.Sound.{sound}
-use Rattle.steps.specs.Words.Tapes.{used_up, batch_tapes, batch_on_tapes, batch_stops_16}
-use Rattle.steps.specs.Words.Taken.{batch_takes_most, batch_same_within}
-use Rattle.steps.specs.Words.Calls.{Ends, by-24, by-checks, by-16, accepts, ends, passes_outside, is_outside, not_outside, used_most, used_same}
+use Rattle.steps.proofs.Words.Tapes.{used_up, batch_tapes, batch_on_tapes, batch_stops_16}
+use Rattle.steps.proofs.Words.Taken.{batch_takes_most, batch_same_within}
+use Rattle.steps.proofs.Words.Calls.{Ends, by-24, by-checks, by-16, accepts, ends, passes_outside, is_outside, not_outside, used_most, used_same}
 use Rattle.steps.specs.declared.AnswerWords.{AnswerWords}
 use Rattle.steps.specs.declared.Framework.{Framework}
 

@@ -13,7 +13,7 @@ use Rattle.std.specs.Float.Ieee.Bits.{of_bits-fits}
 use Rattle.std.specs.Float.Ieee.Positive.{positive}
 use borrow.Author.Tests.{ne_eqb, le-ltb}
 use Rattle.numbers.specs.Fraction.{reached, in1074}
-use Rattle.numbers.specs.Fraction.Laws.{units_positive, passed_is_below}
+use Rattle.numbers.proofs.Fraction.Laws.{units_positive, passed_is_below}
 use Rattle.numbers.specs.Positive.{positive_above}
 use Rattle.numbers.specs.Saturating.{saturating_add}
 use Rattle.machine.specs.Constants.{machine_max, max_padding_frac}
@@ -22,7 +22,7 @@ use Rattle.steps.specs.Limits.{limit_left, machine_padding_frac, below_fraction,
 use Rattle.steps.specs.Events.{Tables, machine_word}
 use Rattle.steps.specs.Framework.{rows_in}
 use Rattle.steps.specs.Budget.{allowance, fraction}
-use Rattle.steps.specs.Budget.Invariant.{Checks}
+use Rattle.steps.proofs.Budget.Invariant.{Checks}
 use Rattle.steps.specs.declared.MachineRuntime.{MachineRuntime}
 use Rattle.steps.specs.declared.Context.{Context}
 

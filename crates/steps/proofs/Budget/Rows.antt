@@ -6,10 +6,10 @@ use Rattle.std.specs.Float.Ieee.Fits.{and_l, and_r}
 use Rattle.machine.specs.Constants.{send_padding}
 use Rattle.steps.specs.Transition.{no_action}
 use Rattle.steps.specs.Framework.{action_rows, written}
-use Rattle.steps.specs.Rows.{RowOf, row_count, rows_are}
+use Rattle.steps.proofs.Rows.{RowOf, row_count, rows_are}
 use Rattle.steps.specs.Budget.{returns_padding}
-use Rattle.steps.specs.Budget.Invariant.{or_of}
-use Rattle.steps.specs.Budget.Machine.{is_padding}
+use Rattle.steps.proofs.Budget.Invariant.{or_of}
+use Rattle.steps.proofs.Budget.Machine.{is_padding}
 use Rattle.steps.specs.declared.TriggerAction.{TriggerAction}
 
 module _ (actions : List TriggerAction) (n : ℕ) (out : List ℕ) (i : ℕ) where

@@ -12,9 +12,9 @@ use Rattle.steps.specs.Events.{Run, num_machines, no_runtime, runtime_at, with_r
 use Rattle.steps.specs.Runs.{Ok}
 use Rattle.steps.specs.Walk.{Stays}
 use Rattle.steps.specs.Budget.{Ledger, packets, allowance, fraction}
-use Rattle.steps.specs.Budget.Invariant.{heard, Acts, Inv, inv_acts}
-use Rattle.steps.specs.Budget.Check.{Passed, numbers_at, Setup, machines_of, checks}
-use Rattle.steps.specs.Budget.Machine.{is_padding, Has, Told, kept}
+use Rattle.steps.proofs.Budget.Invariant.{heard, Acts, Inv, inv_acts}
+use Rattle.steps.proofs.Budget.Check.{Passed, numbers_at, Setup, machines_of, checks}
+use Rattle.steps.proofs.Budget.Machine.{is_padding, Has, Told, kept}
 use Rattle.steps.specs.declared.MachineRuntime.{MachineRuntime}
 use Rattle.steps.specs.declared.Framework.{Framework}
 use Rattle.steps.specs.declared.TriggerAction.{TriggerAction}

@@ -11,7 +11,7 @@ use Rattle.std.specs.Float.Ieee.Bits.{of_bits-fits}
 use Rattle.std.specs.Float.Ieee.Fits.{and_r}
 use Rattle.std.specs.Float.Ieee.Positive.{positive}
 use Rattle.numbers.specs.Fraction.{in1074}
-use Rattle.numbers.specs.Fraction.Laws.{positive_units}
+use Rattle.numbers.proofs.Fraction.Laws.{positive_units}
 use Rattle.numbers.specs.Positive.{positive_is, limit_positive}
 use Rattle.machine.specs.Source.{Source, Telling}
 use Rattle.machine.specs.declared.source.Place.{Place}
@@ -19,7 +19,7 @@ use Rattle.machine.specs.Constants.{machine_max, machine_words, max_padding_frac
 use Rattle.machine.specs.State.{rows_of}
 use Rattle.numbers.specs.Finite.{zero_f}
 use Rattle.tables.specs.Framework.{is_fraction, fractions_refusal}
-use Rattle.tables.specs.Valid.Laws.{zero_valid}
+use Rattle.tables.proofs.Valid.Laws.{zero_valid}
 use Rattle.tables.specs.Machine.{tables_refusal}
 use Rattle.steps.specs.Events.{Tables, Run, no_runtime, runtime_at, machine_word}
 use Rattle.steps.specs.Framework.{rows_in, open_run, open_refusal, opening}
@@ -27,11 +27,11 @@ use Rattle.steps.specs.Runs.{stored_all, Ok, ok_any, none_of, opening_ok}
 use Rattle.steps.specs.Draws.{by_told}
 use Rattle.steps.specs.Machines.{comes_in, opening_kept}
 use Rattle.steps.specs.Budget.{empty}
-use Rattle.steps.specs.Budget.Invariant.{inv_open}
-use Rattle.steps.specs.Budget.Check.{Setup, checks}
-use Rattle.steps.specs.Budget.Machine.{Has, Told}
-use Rattle.steps.specs.Budget.Runs.{Frame}
-use Rattle.steps.specs.Budget.Batches.{Rest}
+use Rattle.steps.proofs.Budget.Invariant.{inv_open}
+use Rattle.steps.proofs.Budget.Check.{Setup, checks}
+use Rattle.steps.proofs.Budget.Machine.{Has, Told}
+use Rattle.steps.proofs.Budget.Runs.{Frame}
+use Rattle.steps.proofs.Budget.Batches.{Rest}
 
 not_zero : (n : ℕ) → suc n ≡ 0 → ⊥
 not_zero n e = omega arith

@@ -3,7 +3,8 @@ use Rattle.std.specs.Prelude.{ℕ, zero, suc, ◌-◌, ◌*◌, ◌/◌, ◌^◌
 use Rattle.std.proofs.Common.{ap, ◌∙◌, arith, pow-suc, length-append, length-drop, le-leb, leb-true, leb-false}
 use Rattle.std.proofs.Math.Nat.{pow-zero}
 use Rattle.std.proofs.lemmas.List.{length-replicate}
-use Rattle.columns.specs.Digits.{digits, one_digit, more_digits, read_back, read_digits}
+use Rattle.columns.specs.Digits.{digits, one_digit, more_digits, read_back}
+use Rattle.columns.proofs.Digits.{read_digits}
 use Rattle.columns.specs.Columns.{fits, last_digits, right, rights}
 
 -- ---- how many digits

@@ -10,7 +10,7 @@ use Rattle.cells.specs.RoundTrip.U64.{Words}
 use Rattle.sheet.specs.Sheet.{sheet_of}
 use Rattle.sheet.specs.Writer.{whole_rows, write_refusal, over, sheet_write}
 use Rattle.sheet.specs.Reader.{machine_lines, state_lines, transition_lines, form_of, room_for, read_refusal, sheet_read}
-use Rattle.sheet.specs.RoundTrip.Form.{Sound, machines_of, states_of, transitions_of}
+use Rattle.sheet.proofs.RoundTrip.Form.{Sound, machines_of, states_of, transitions_of}
 
 -- ---- the writer
 

@@ -16,8 +16,8 @@ use Rattle.steps.specs.Runs.{by_test, Ok, ok_any, batch_ok}
 use Rattle.steps.specs.Draws.{Gives}
 use Rattle.steps.specs.Walk.{row_of}
 use Rattle.steps.specs.Machines.{InRun}
-use Rattle.steps.specs.Fits.{fits_says, inside_in, run_inside, checked}
-use Rattle.steps.specs.Rows.{row_words, RowOf, rows_most, rows_are}
+use Rattle.steps.proofs.Fits.{fits_says, inside_in, run_inside, checked}
+use Rattle.steps.proofs.Rows.{row_words, RowOf, rows_most, rows_are}
 use Rattle.steps.specs.Targets.{in_state, Passed, valid_state}
 use Rattle.steps.specs.declared.MachineRuntime.{MachineRuntime}
 use Rattle.steps.specs.declared.Context.{Context}

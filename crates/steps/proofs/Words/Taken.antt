@@ -15,7 +15,7 @@ use Rattle.steps.specs.Runs.{Ok}
 use Rattle.steps.specs.Play.{Play, ends, attempts, ask_chance, ask_uniform, ask_outside, after, run, Counts, Plays}
 use Rattle.steps.specs.Play.Runs.{Running, outcome}
 use Rattle.steps.specs.Words.Sound.{Sound}
-use Rattle.steps.specs.Words.Tapes.{front, BatchCost, triggers_by, batch_play, OpeningCost, opens_by, opening_play}
+use Rattle.steps.proofs.Words.Tapes.{front, BatchCost, triggers_by, batch_play, OpeningCost, opens_by, opening_play}
 use Rattle.steps.specs.declared.Framework.{Framework}
 
 -- ---- an answer leaves the position between v and m

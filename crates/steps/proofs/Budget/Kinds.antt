@@ -8,7 +8,7 @@ use Rattle.steps.specs.Events.{Tables, stop}
 use Rattle.steps.specs.Framework.{open_refusal, opened_by, opening, Batch, refused, batch}
 use Rattle.steps.specs.Words.{Lent, on_tapes, on_words, source_of, outside_refused, opening_on, batch_on}
 use Rattle.steps.specs.Runs.{either}
-use Rattle.steps.specs.Budget.Batches.{refused_law}
+use Rattle.steps.proofs.Budget.Batches.{refused_law}
 use Rattle.steps.specs.declared.Framework.{Framework}
 use Rattle.steps.specs.declared.Opened.{Opened}
 

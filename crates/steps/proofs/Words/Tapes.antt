@@ -12,7 +12,8 @@ use Rattle.steps.specs.Framework.{none_zeroed, no_actions, new_framework, open_t
 use Rattle.steps.specs.Runs.{Ok}
 use Rattle.steps.specs.Play.{Counts, run, Plays}
 use Rattle.steps.specs.Play.Runs.{Running, run_of, outcome, beginning, Costs, batch_plays, open_plays}
-use Rattle.steps.specs.Play.Laws.{Given, worked_out, Honest, retold, follows, Only16, only_16}
+use Rattle.steps.specs.Play.Laws.{Given, worked_out, Honest, retold}
+use Rattle.steps.proofs.Play.Laws.{follows, Only16, only_16}
 use Rattle.steps.specs.Words.Honest.{words_honest}
 use Rattle.steps.specs.Words.Sound.{Sound}
 use Rattle.steps.specs.declared.Framework.{Framework}

@@ -8,8 +8,8 @@ use Rattle.machine.specs.declared.source.Place.{Place}
 use Rattle.outside.specs.Outside.{draws_outside}
 use Rattle.steps.specs.Events.{Tables, Run, Outcome, stop, go}
 use Rattle.steps.specs.Words.{outside_refused}
-use Rattle.steps.specs.Words.Tapes.{at_place, Stops16}
-use Rattle.steps.specs.Words.Taken.{taken, TakesMost, SameWithin}
+use Rattle.steps.proofs.Words.Tapes.{at_place, Stops16}
+use Rattle.steps.proofs.Words.Taken.{taken, TakesMost, SameWithin}
 
 -- `conclude` makes the answer of a run or a refusal, `checks` is the number that the checks of both calls give, `outside` says whether 24 is
 -- given; `of_words` is the call on words, `of_tapes` the two-tape call, and `used` the end of its tapes.

@@ -12,10 +12,10 @@ use Rattle.steps.specs.Words.{Lent, source_of, lent_tells, opening_on, batch_on}
 use Rattle.steps.specs.Runs.{ok_any, opening_ok, batch_ok}
 use Rattle.steps.specs.Draws.{by_any, by_told}
 use Rattle.steps.specs.Targets.{Passed}
-use Rattle.steps.specs.Refusals.{run_stops}
-use Rattle.steps.specs.Fits.{fits_says, few, batch_fits, Fresh, opens_fresh, none_ended, opening_fits, never_18_on}
+use Rattle.steps.proofs.Refusals.{run_stops}
+use Rattle.steps.proofs.Fits.{fits_says, few, batch_fits, Fresh, opens_fresh, none_ended, opening_fits, never_18_on}
 use Rattle.steps.specs.Budget.{Call, refusal_of, framework_of}
-use Rattle.steps.specs.Budget.Kinds.{opening_on_lem, accepted_opening, batch_on_lem, accepted_batch, refused_batch}
+use Rattle.steps.proofs.Budget.Kinds.{opening_on_lem, accepted_opening, batch_on_lem, accepted_batch, refused_batch}
 use Rattle.steps.specs.declared.MachineRuntime.{MachineRuntime}
 use Rattle.steps.specs.declared.Framework.{Framework}
 

@@ -15,13 +15,13 @@ use Rattle.steps.specs.Limits.{blocking_on}
 use Rattle.steps.specs.Runs.{either, Ok, ok_map, each_ok, turn_range, no_turn, signals_kept}
 use Rattle.steps.specs.Walk.{transition_kept, turn_kept}
 use Rattle.steps.specs.Budget.{Ledger, count, packets}
-use Rattle.steps.specs.Budget.Invariant.{heard, kind_cases, inv_owned, inv_count}
-use Rattle.steps.specs.Budget.Machine.{Told, kept, closed}
+use Rattle.steps.proofs.Budget.Invariant.{heard, kind_cases, inv_owned, inv_count}
+use Rattle.steps.proofs.Budget.Machine.{Told, kept, closed}
 use Rattle.steps.specs.declared.Framework.{Framework}
 use Rattle.steps.specs.declared.Totals.{Totals}
-use Rattle.steps.specs.Budget.Counts.{one_more, counted_has, uncounted}
-use Rattle.steps.specs.Budget.Check.{Setup, machines_of, checks}
-use Rattle.steps.specs.Budget.Runs.{Frame, sends, Mid, Why, by_check, store, num_is, Live, mid_live}
+use Rattle.steps.proofs.Budget.Counts.{one_more, counted_has, uncounted}
+use Rattle.steps.proofs.Budget.Check.{Setup, machines_of, checks}
+use Rattle.steps.proofs.Budget.Runs.{Frame, sends, Mid, Why, by_check, store, num_is, Live, mid_live}
 
 module _ (S : Setup) where
   open S use {tables}

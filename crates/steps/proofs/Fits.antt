@@ -11,7 +11,7 @@ use Rattle.machine.specs.Words.{words}
 use Rattle.machine.specs.declared.source.Place.{Place}
 use Rattle.rows.specs.First.{or_else}
 use Rattle.tables.specs.Machine.{tables_refusal}
-use Rattle.tables.specs.Valid.Laws.{zero_valid}
+use Rattle.tables.proofs.Valid.Laws.{zero_valid}
 use Rattle.steps.specs.Limits.{below_action_limits}
 use Rattle.steps.specs.Transition.{no_action, raise, transition}
 use Rattle.steps.specs.Events.{Tables, Run, Outcome, stop, go, num_machines, no_runtime, runtime_at, env_of, stored, limit_falls, turn, machine_turn, signal_machine}
@@ -22,7 +22,7 @@ use Rattle.steps.specs.Draws.{Refuses, by_any, by_told, by_tapes, by_words, Give
 use Rattle.steps.specs.Walk.{Alive, Closed, row_of}
 use Rattle.steps.specs.Machines.{comes_in, opening_kept, Family, member, InRun, batch_kept}
 use Rattle.steps.specs.Targets.{Inside, Passed, states_in, some_state, goes_inside, fit_states}
-use Rattle.steps.specs.Refusals.{tables_most, run_stops}
+use Rattle.steps.proofs.Refusals.{tables_most, run_stops}
 use Rattle.steps.specs.declared.MachineRuntime.{MachineRuntime}
 use Rattle.steps.specs.declared.Framework.{Framework}
 use Rattle.steps.specs.declared.TriggerAction.{TriggerAction}

@@ -6,7 +6,7 @@ use Rattle.std.proofs.lemmas.List.{replicate-append-replicate, drop-append-le}
 use Rattle.std.proofs.Math.Seq.{drop-length}
 use Rattle.columns.specs.Digits.{digits, one_digit, more_digits, read_back, read_digit, read_more}
 use Rattle.columns.specs.Columns.{last_digits, right}
-use Rattle.columns.specs.Fits.{right_is}
+use Rattle.columns.proofs.Fits.{right_is}
 
 -- ---- the last digits
 

@@ -3,7 +3,7 @@ use Rattle.std.specs.Prelude.{ℕ, suc, ◌+◌, ◌<◌, ◌≡◌, refl, List,
 use Rattle.std.proofs.Common.{sym, ap, ◌∙◌, append_assoc, arith, length-append, drop_at, take_at, drop-cons, drop-drop}
 use Rattle.std.proofs.lemmas.List.{set_at}
 use Rattle.columns.specs.Columns.{right, cell_in}
-use Rattle.columns.specs.Fits.{length-right}
+use Rattle.columns.proofs.Fits.{length-right}
 
 -- the text `out` is R, of k bytes, and then what stood in o at first
 pub record Upto (o R : List ℕ) (k : ℕ) (out : List ℕ) : Type 0 where

@@ -9,7 +9,7 @@ use Rattle.tables.specs.Machine.{tables_refusal}
 use Rattle.tables.specs.Valid.{TransitionAnswer, transition-passes, nine, ten, eleven, twelve, PairAnswer, pair-passes, eight, first-transition, thirteen}
 use Rattle.tables.specs.Valid.{StateAnswer, state-passes, first-event, fourteen, fifteen, MachineAnswer, machine-passes, four, five, six, seven, first-state}
 use Rattle.tables.specs.Valid.{TablesAnswer, tables_pass, three, first-machine}
-use Rattle.tables.specs.Valid.Laws.{answered}
+use Rattle.tables.proofs.Valid.Laws.{answered}
 use Rattle.steps.specs.Events.{Tables, num_machines, env_of}
 use Rattle.steps.specs.Framework.{rows_in, fits_tables, events_fit, open_run, opening, trigger_events, batch_refusal, batch}
 use Rattle.steps.specs.Runs.{either, Ok, ok_map, opening_ok, batch_ok}

@@ -16,13 +16,13 @@ use Rattle.outside.specs.Outside.{draws_outside}
 use Rattle.steps.specs.Events.{Tables, stop}
 use Rattle.steps.specs.Framework.{open_run, opened_by, open_refusal, opening, no_framework}
 use Rattle.steps.specs.Runs.{either, none_of}
-use Rattle.steps.specs.Refusals.{tables_most}
+use Rattle.steps.proofs.Refusals.{tables_most}
 use Rattle.steps.specs.Play.Laws.{Given}
 use Rattle.steps.specs.Words.{on_words, outside_refused, opening_on, opened_in_words, opening_words}
 use Rattle.steps.specs.Words.Sound.{sound}
-use Rattle.steps.specs.Words.Tapes.{used_up, opening_tapes, opening_on_tapes, opening_stops_16}
-use Rattle.steps.specs.Words.Taken.{opening_takes_most, opening_same_within}
-use Rattle.steps.specs.Words.Calls.{Ends, by-24, by-checks, by-16, accepts, ends, passes_outside, is_outside, not_outside, used_most, used_same}
+use Rattle.steps.proofs.Words.Tapes.{used_up, opening_tapes, opening_on_tapes, opening_stops_16}
+use Rattle.steps.proofs.Words.Taken.{opening_takes_most, opening_same_within}
+use Rattle.steps.proofs.Words.Calls.{Ends, by-24, by-checks, by-16, accepts, ends, passes_outside, is_outside, not_outside, used_most, used_same}
 use Rattle.steps.specs.declared.Opened.{Opened}
 use Rattle.steps.specs.declared.OpenedWords.{OpenedWords}
 

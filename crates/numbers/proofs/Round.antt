@@ -1,0 +1,2 @@
+-- Theorems about the definitions of specs/Round.antt.
+pub mod Laws

@@ -1,0 +1,2 @@
+-- Theorems about the definitions of specs/Play.antt.
+pub mod Laws
