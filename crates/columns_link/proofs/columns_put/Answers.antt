@@ -1,5 +1,4 @@
 -- `columns_link::columns_put` meets its contract.
-use borrow.Author.Rules.{rules}
 use Rattle.columns_link.proofs.Cases.{none}
 use Rattle.columns_link.proofs.columns_put.Goals as goal
 
