@@ -1,5 +1,5 @@
 -- state.rs: rows of the lent tables, and the choice of a next state.
-use Rattle.std.specs.Prelude.{ℕ, zero, suc, ◌+◌, ◌*◌, ◌%◌, List, Bool, cond, length, get_or, take, drop, leb, Float}
+use Rattle.std.specs.Prelude.{ℕ, zero, suc, ◌+◌, ◌*◌, ◌%◌, List, cond, length, get_or, take, drop, leb, Float}
 use Rattle.std.specs.Float.{binary32}
 use Rattle.std.specs.Float.Ieee.{of_bits, add, lt}
 use Rattle.machine.specs.Constants.{state_words, transition_words, events}

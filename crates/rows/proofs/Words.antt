@@ -6,14 +6,14 @@ use mathlib.Core.Path.{◌≡◌, refl, sym, ◌∙◌, subst}
 use mathlib.Core.List.{List}
 use mathlib.Core.Bool.{Bool, true, false, not, cond, true≢false}
 use lib.IntN.{ℤ}
-use lib.Dec.{T, ltb, leb, eqb, lit≤, lit<}
+use lib.Dec.{T, ltb, lit≤, lit<}
 use lib.Pow.{pow_pos, pow_mono}
 use lib.Ieee.{Float, nan, inf, fin, binary32, up, down, odd, of_fields, of_bits, lt, le, eq, nan_bits}
 use lib.Ieee.Bits.{nan_bits_above}
 use lib.Ieee.Fits.{down_pos}
 use lib.Ieee.Positive.{first_pos}
 use lib.Ieee.Exact.{HasValue, odd_sign}
-use borrow.Author.Tests.{leb-true, eqb-false, not-true, lt-ltb, ltb-true, ltb-false, le-ltb, lt-leb, ne_eqb}
+use borrow.Author.Tests.{lt-ltb, ltb-true, ltb-false, le-ltb, lt-leb, ne_eqb}
 use Rattle.machine.specs.State.{target_at}
 use Rattle.rows.specs.Row.{probability_word, is_target, improbable, transition_refusal}
 

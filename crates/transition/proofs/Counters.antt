@@ -15,7 +15,6 @@ use Rattle.machine.specs.declared.source.Place.{Place}
 use Rattle.dists.specs.declared.WholeDrawn.{WholeDrawn}
 use Rattle.dists.specs.declared.WholeDrawn.TheVariants.{Refused, GotWhole}
 use Rattle.steps.specs.Transition.{Env, with_counters, with_tally, applied, counter_of, changed_by, change_of, update_one, tallied, with_a, with_b, tally_a, tally_b, counter_steps, and_tally, tally_each, untallied, update_counters, unspent, left, after_zero, update_counter, zero_transition, transition_at, update_counter_at}
-use Rattle.steps.specs.declared.Counter.{Counter}
 use Rattle.steps.specs.declared.Counted.{Counted}
 use Rattle.steps.specs.declared.Counted.TheVariants.{Refused, NewValue}
 use Rattle.steps.specs.declared.Counters.{Counters}

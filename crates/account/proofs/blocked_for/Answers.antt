@@ -1,5 +1,4 @@
 -- `blocked_for` meets its contract, arm by arm.
-use borrow.Author.Rules.{rules}
 use borrow.Author.Tests.{eq-eqb, ne_eqb}
 use Rattle.steps.specs.Events.{blocked_for}
 use Rattle.account.proofs.blocked_for.Goals as goal

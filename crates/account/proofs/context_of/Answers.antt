@@ -1,5 +1,4 @@
 -- `context_of` meets its contract: each word that it reads is the row's.
-use borrow.Author.Rules.{rules}
 use Rattle.account.proofs.context_of.Goals as goal
 
 pub returns : goal.returns

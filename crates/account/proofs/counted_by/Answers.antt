@@ -1,5 +1,4 @@
 -- `counted_by` meets its contract, by the event's kind. Assumes nothing.
-use borrow.Author.Rules.{rules}
 use borrow.Author.Tests.{eq-eqb, ne_eqb}
 use Rattle.steps.specs.Events.{counts_after}
 use Rattle.account.proofs.counted_by.Goals as goal

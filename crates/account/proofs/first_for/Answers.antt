@@ -1,5 +1,4 @@
 -- `first_for` meets its contract: both arms follow `own_only`.
-use borrow.Author.Rules.{rules}
 use mathlib.Core.Path.{sym, ◌∙◌}
 use Rattle.account.proofs.first_for.Goals as goal
 

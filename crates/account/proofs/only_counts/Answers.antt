@@ -1,5 +1,4 @@
 -- `only_counts` meets its contract, by whether a limit falls and what was chosen.
-use borrow.Author.Rules.{rules}
 use Rattle.account.specs.Account.{only_counts}
 use Rattle.account.proofs.only_counts.Goals as goal
 

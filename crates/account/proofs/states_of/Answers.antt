@@ -1,5 +1,4 @@
 -- `states_of` meets its contract: both words that it reads are the row's.
-use borrow.Author.Rules.{rules}
 use Rattle.account.proofs.states_of.Goals as goal
 
 pub returns : goal.returns

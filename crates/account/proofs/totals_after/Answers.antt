@@ -1,5 +1,4 @@
 -- `totals_after` meets its contract, kind by kind. Assumes nothing.
-use borrow.Author.Rules.{rules}
 use borrow.Author.Tests.{eq-eqb, ne_eqb}
 use Rattle.steps.specs.Events.{totals_after}
 use Rattle.account.proofs.totals_after.Goals as goal

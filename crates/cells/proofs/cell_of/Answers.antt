@@ -1,11 +1,8 @@
 -- `cells::cell_of` meets its contract: before each turn the columns so far are those of a number.
-use borrow.Author.Rules.{rules}
-use Prim.Native.Nat.{◌-◌, ◌^◌, ◌≤◌, ◌<◌}
+use Prim.Native.Nat.{◌-◌}
 use mathlib.Core.Path.{◌≡◌, sym, ◌∙◌}
 use native.Mathlib.Omega.{arith}
 use native.Mathlib.Nat.{pow-le-pow_right, pow-suc}
-use lib.ListN.{take}
-use Rattle.columns.specs.ByColumn.{rests}
 use Rattle.cells.proofs.Columns.{first_digit, first_space, stops, on_column, below, below_next, grows, ends}
 use Rattle.cells.proofs.cell_of.Goals as goal
 

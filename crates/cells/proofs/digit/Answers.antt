@@ -2,7 +2,6 @@
 use mathlib.Core.Path.{refl}
 use native.Mathlib.Omega.{arith}
 use Rattle.cells.proofs.Columns.{digit_bounds}
-use borrow.Author.Rules.{rules}
 use Rattle.cells.proofs.digit.Goals as goal
 
 pub overflow_sub-result : goal.overflow_sub-result

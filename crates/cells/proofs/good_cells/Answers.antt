@@ -1,12 +1,11 @@
 -- `cells::good_cells` meets its contract: those before the turn have passed.
-use Prim.Native.Nat.{◌*◌, ◌-◌, ◌≤◌}
+use Prim.Native.Nat.{◌*◌}
 use mathlib.Core.Path.{refl}
 use mathlib.Core.Bool.{true, false}
 use native.Mathlib.Omega.{arith}
 use Rattle.cells.specs.Cells.{word_columns, is_cell}
-use Rattle.cells.specs.Laws.{Passed, passed_none, passed_more, passed_fails, passed_all}
+use Rattle.cells.specs.Laws.{passed_none, passed_more, passed_fails, passed_all}
 use Rattle.cells.proofs.Columns.{good_at}
-use borrow.Author.Rules.{rules}
 use Rattle.cells.proofs.good_cells.Goals as goal
 
 pub loop-i-init : goal.loop-i-init

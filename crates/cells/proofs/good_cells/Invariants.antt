@@ -1,11 +1,6 @@
-use Prim.Native.Nat.{◌*◌, ◌-◌, ◌≤◌}
-use mathlib.Core.Path.{refl}
-use mathlib.Core.Bool.{true, false}
-use native.Mathlib.Omega.{arith}
+use Prim.Native.Nat.{◌-◌, ◌≤◌}
 use Rattle.cells.specs.Cells.{word_columns, is_cell}
-use Rattle.cells.specs.Laws.{Passed, passed_none, passed_more, passed_fails, passed_all}
-use Rattle.cells.proofs.Columns.{good_at}
-use borrow.Author.Rules.{rules}
+use Rattle.cells.specs.Laws.{Passed}
 use Rattle.cells.proofs.good_cells.Given as goal
 
 abbrev pub invariant-loop-i : goal.invariant-loop-i

@@ -2,7 +2,6 @@
 use mathlib.Core.Path.{sym, ◌∙◌}
 use native.Mathlib.Omega.{arith}
 use Rattle.cells.proofs.Columns.{last_other, last_large, last_digit}
-use borrow.Author.Rules.{rules}
 use Rattle.cells.proofs.last.Goals as goal
 
 pub digit-d-requires : goal.digit-d-requires

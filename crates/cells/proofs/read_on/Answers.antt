@@ -2,7 +2,6 @@
 use mathlib.Core.Path.{sym, ◌∙◌}
 use native.Mathlib.Omega.{arith}
 use Rattle.cells.proofs.Columns.{before_digits, behind_digits, no_digit, leading_zero, one_digit}
-use borrow.Author.Rules.{rules}
 use Rattle.cells.proofs.read_on.Goals as goal
 
 pub returns-then-n-eq0 : goal.returns-then-n-eq0

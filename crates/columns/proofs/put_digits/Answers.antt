@@ -1,12 +1,9 @@
 -- `columns::put_digits` meets its contract: the digits that are left to write, and then what stands, stay the same text.
-use borrow.Author.Rules.{rules}
 use Prim.Native.Nat.{◌-◌, ◌≤◌}
-use mathlib.Core.Logic.{⊎_elim}
-use mathlib.Core.Path.{◌≡◌, refl, ◌∙◌}
+use mathlib.Core.Path.{refl, ◌∙◌}
 use native.Mathlib.Omega.{arith}
-use lib.ListN.{length, length-set}
-use borrow.Author.Tests.{leb-true, leb-false}
-use Rattle.columns.specs.Parts.{digits_in}
+use lib.ListN.{length-set}
+use borrow.Author.Tests.{leb-true}
 use Rattle.columns.proofs.Places.{two_more}
 use Rattle.columns.proofs.put_digits.Goals as goal
 use Rattle.columns.proofs.put_digits.Goals.{then-loop-rest-test+else-i-at-ge2, else-loop-rest-test}

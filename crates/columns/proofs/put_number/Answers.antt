@@ -1,5 +1,4 @@
 -- `columns::put_number` meets its contract: digits over spaces are the number's columns.
-use borrow.Author.Rules.{rules}
 use Prim.Native.Nat.{ℕ, ◌+◌}
 use mathlib.Core.Path.{ap, ◌∙◌}
 use mathlib.Core.List.{List}

@@ -1,10 +1,8 @@
 -- `columns::put_numbers` meets its contract: before each turn the line is the numbers so far, and what stood behind them.
 use borrow.Author.Rules.{rules}
-use Prim.Native.Nat.{◌-◌, ◌≤◌}
-use mathlib.Core.Path.{◌≡◌, refl, ◌∙◌}
+use mathlib.Core.Path.{refl, ◌∙◌}
 use native.Mathlib.Omega.{arith}
-use lib.ListN.{length}
-use Rattle.columns.proofs.Numbers.{Stand, no_number, room, one_number, all_numbers}
+use Rattle.columns.proofs.Numbers.{no_number, room, one_number, all_numbers}
 use Rattle.columns.proofs.put_numbers.Goals as goal
 
 pub loop-i-init : goal.loop-i-init

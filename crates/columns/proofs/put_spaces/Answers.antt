@@ -1,10 +1,9 @@
 -- `columns::put_spaces` meets its contract: after each turn there is one space more.
-use borrow.Author.Rules.{rules}
-use Prim.Native.Nat.{ℕ, ◌-◌, ◌≤◌}
+use Prim.Native.Nat.{ℕ}
 use mathlib.Core.Path.{◌≡◌, refl, sym, ap, ◌∙◌}
 use native.Mathlib.Omega.{arith}
 use mathlib.Core.List.{List}
-use lib.ListN.{length, set, length-set}
+use lib.ListN.{set, length-set}
 use Rattle.columns.specs.Parts.{spaces_in}
 use Rattle.columns.proofs.Places.{no_space, one_space}
 use Rattle.columns.proofs.put_spaces.Goals as goal

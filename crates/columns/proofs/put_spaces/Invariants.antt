@@ -1,11 +1,7 @@
-use borrow.Author.Rules.{rules}
-use Prim.Native.Nat.{ℕ, ◌-◌, ◌≤◌}
-use mathlib.Core.Path.{◌≡◌, refl, sym, ap, ◌∙◌}
-use native.Mathlib.Omega.{arith}
-use mathlib.Core.List.{List}
-use lib.ListN.{length, set, length-set}
+use Prim.Native.Nat.{◌-◌, ◌≤◌}
+use mathlib.Core.Path.{◌≡◌}
+use lib.ListN.{length}
 use Rattle.columns.specs.Parts.{spaces_in}
-use Rattle.columns.proofs.Places.{no_space, one_space}
 use Rattle.columns.proofs.put_spaces.Given as goal
 
 abbrev pub invariant-loop-i : goal.invariant-loop-i

@@ -1,5 +1,4 @@
 -- `applied` meets its contract, by the operation. Assumes nothing.
-use borrow.Author.Rules.{rules}
 use borrow.Author.Tests.{eq-eqb, ne_eqb}
 use Rattle.steps.specs.Transition.{applied}
 use Rattle.counters.proofs.applied.Goals as goal

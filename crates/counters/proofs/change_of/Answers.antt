@@ -1,5 +1,4 @@
 -- `change_of` meets its contract, by the row's copy word. Assumes nothing.
-use borrow.Author.Rules.{rules}
 use mathlib.Core.Path.{sym, ◌∙◌}
 use borrow.Author.Tests.{eq-eqb, ne_eqb}
 use Rattle.counters.proofs.change_of.Goals as goal

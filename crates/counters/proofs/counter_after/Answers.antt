@@ -1,5 +1,4 @@
 -- `counter_after` meets its contract, by what was drawn. Assumes nothing.
-use borrow.Author.Rules.{rules}
 use Rattle.counters.proofs.counter_after.Goals as goal
 
 pub returns-in-Refused : goal.returns-in-Refused

@@ -1,5 +1,4 @@
 -- `counter_of` meets its contract. Assumes nothing.
-use borrow.Author.Rules.{rules}
 use Rattle.counters.proofs.counter_of.Goals as goal
 
 pub returns : goal.returns

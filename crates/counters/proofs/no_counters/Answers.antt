@@ -1,5 +1,4 @@
 -- `no_counters` meets its contract: the code's tests are those of the definition. Assumes nothing.
-use borrow.Author.Rules.{rules}
 use mathlib.Core.Path.{sym, ◌∙◌}
 use borrow.Author.Tests.{eq-eqb, ne_eqb}
 use Rattle.counters.proofs.no_counters.Goals as goal

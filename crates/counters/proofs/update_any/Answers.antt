@@ -1,7 +1,6 @@
 -- `update_any` meets its contract: without counters nothing changes. Assumes nothing.
 use mathlib.Core.Path.{sym, ◌∙◌}
 use Rattle.counters.proofs.Counters.{uncounted}
-use borrow.Author.Rules.{rules}
 use Rattle.counters.proofs.update_any.Goals as goal
 
 pub returns-then-no_counters : goal.returns-then-no_counters

@@ -2,7 +2,6 @@
 use mathlib.Core.Path.{sym, ◌∙◌}
 use Rattle.steps.specs.Transition.{tally_a, tally_b, update_counters}
 use Rattle.counters.specs.Counter.{update_one_is}
-use borrow.Author.Rules.{rules}
 use Rattle.counters.proofs.update_counters.Goals as goal
 
 pub returns-in-Refused : goal.returns-in-Refused

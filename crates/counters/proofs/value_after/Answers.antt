@@ -2,7 +2,6 @@
 use mathlib.Core.Path.{sym, ◌∙◌}
 use borrow.Author.Tests.{eq-eqb, ne_eqb}
 use Rattle.counters.specs.Counter.{value_after}
-use borrow.Author.Rules.{rules}
 use Rattle.counters.proofs.value_after.Goals as goal
 
 pub returns-then-operation-eq0 : goal.returns-then-operation-eq0

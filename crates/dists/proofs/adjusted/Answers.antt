@@ -1,7 +1,6 @@
 -- `adjusted` meets its contract: the code's test, at what `or_zero` ensures, is that of the
 -- definition. Assumes nothing.
 use Rattle.dists.specs.Dist.{adjusted, capped}
-use borrow.Author.Rules.{rules}
 use Rattle.dists.proofs.adjusted.Goals as goal
 
 pub returns-then-max-x : goal.returns-then-max-x

@@ -1,5 +1,4 @@
 -- `adjusted_draw` meets its contract, by what was drawn. Assumes nothing.
-use borrow.Author.Rules.{rules}
 use Rattle.dists.proofs.adjusted_draw.Goals as goal
 
 pub returns-in-Refused : goal.returns-in-Refused

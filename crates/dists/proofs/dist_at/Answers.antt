@@ -1,6 +1,5 @@
 -- `dist_at` meets its contract: each part of the record is what its function ensures.
 -- Assumes nothing.
-use borrow.Author.Rules.{rules}
 use native.Mathlib.Omega.{arith}
 use Rattle.dists.specs.Dist.{dist_at}
 use Rattle.dists.proofs.dist_at.Goals as goal

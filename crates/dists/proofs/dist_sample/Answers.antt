@@ -1,6 +1,5 @@
 -- `dist_sample` meets its contract, by the kind of the distribution. Assumes nothing.
 use Rattle.dists.specs.Dist.{dist_sample}
-use borrow.Author.Rules.{rules}
 use Rattle.dists.proofs.dist_sample.Goals as goal
 
 pub returns-in-Absent : goal.returns-in-Absent

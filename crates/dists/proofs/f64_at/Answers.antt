@@ -1,5 +1,4 @@
 -- `f64_at` meets its contract: it is that of `f64_of_word` at what `word` ensures. Assumes nothing.
-use borrow.Author.Rules.{rules}
 use Rattle.dists.proofs.f64_at.Goals as goal
 
 pub returns : goal.returns

@@ -1,6 +1,5 @@
 -- `or_zero` meets its contract: the code's test is that of the definition. Assumes nothing.
 use Rattle.dists.specs.Dist.{or_zero}
-use borrow.Author.Rules.{rules}
 use Rattle.dists.proofs.or_zero.Goals as goal
 
 pub returns-then-is_finite-x : goal.returns-then-is_finite-x

@@ -1,7 +1,6 @@
 -- `outside_draw` meets its contract: the code's test is that of the definition. Assumes nothing.
 use borrow.Author.Tests.{lt-ltb, le-ltb}
 use Rattle.dists.specs.Dist.{outside_draw}
-use borrow.Author.Rules.{rules}
 use Rattle.dists.proofs.outside_draw.Goals as goal
 
 pub returns-then-i-values : goal.returns-then-i-values

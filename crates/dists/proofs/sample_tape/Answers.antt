@@ -1,6 +1,5 @@
 -- `sample_tape` meets its contract: what its functions ensure, put together. Assumes nothing.
 use Rattle.dists.specs.Dist.{sample}
-use borrow.Author.Rules.{rules}
 use Rattle.dists.proofs.sample_tape.Goals as goal
 
 pub returns : goal.returns

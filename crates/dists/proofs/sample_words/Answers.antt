@@ -1,6 +1,5 @@
 -- `sample_words` meets its contract: what its functions ensure, put together. Assumes nothing.
 use Rattle.dists.specs.Dist.{sample}
-use borrow.Author.Rules.{rules}
 use Rattle.dists.proofs.sample_words.Goals as goal
 
 pub returns : goal.returns

@@ -2,7 +2,6 @@
 -- Assumes nothing.
 use borrow.Author.Tests.{lt-ltb, le-ltb}
 use Rattle.dists.specs.Dist.{uniform_draw}
-use borrow.Author.Rules.{rules}
 use Rattle.dists.proofs.uniform_draw.Goals as goal
 
 pub returns-then-low-high : goal.returns-then-low-high

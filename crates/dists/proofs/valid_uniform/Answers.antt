@@ -1,6 +1,5 @@
 -- `valid_uniform` meets its contract, at what `is_finite` ensures. Assumes nothing.
 use Rattle.dists.specs.Dist.{valid_uniform}
-use borrow.Author.Rules.{rules}
 use Rattle.dists.proofs.valid_uniform.Goals as goal
 
 pub returns : goal.returns

@@ -5,7 +5,6 @@ use lib.Ieee.{Float, eq}
 use Rattle.machine.specs.Source.{Values}
 use Rattle.machine.specs.declared.source.Place.{Place}
 use Rattle.dists.specs.Dist.{got_value, uniform_draw, outside_draw, dist_sample}
-use borrow.Author.Rules.{rules}
 use Rattle.dists.proofs.word_sample.Goals as goal
 
 constant : (low high : Float) (values : Values Place) (at : Place) → eq low high ≡ true → got_value low at ≡ uniform_draw low high values at

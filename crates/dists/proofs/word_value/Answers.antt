@@ -1,10 +1,6 @@
 -- `word_value` meets its contract. The invariant: what the whole search gives is what it gives from word i on. Assumes nothing.
-use borrow.Author.Rules.{rules}
 use native.Mathlib.Omega.{arith}
-use Prim.Native.Nat.{◌-◌}
-use mathlib.Core.Path.{◌≡◌, refl, ◌∙◌}
-use lib.ListN.{length, drop}
-use Rattle.machine.specs.Words.{word_value}
+use mathlib.Core.Path.{refl, ◌∙◌}
 use Rattle.dists.proofs.Word.{word_ends, word_next, word_serves}
 use Rattle.dists.proofs.word_value.Goals as goal
 

@@ -1,10 +1,7 @@
-use borrow.Author.Rules.{rules}
-use native.Mathlib.Omega.{arith}
 use Prim.Native.Nat.{◌-◌}
-use mathlib.Core.Path.{◌≡◌, refl, ◌∙◌}
+use mathlib.Core.Path.{◌≡◌}
 use lib.ListN.{length, drop}
 use Rattle.machine.specs.Words.{word_value}
-use Rattle.dists.proofs.Word.{word_ends, word_next, word_serves}
 use Rattle.dists.proofs.word_value.Given as goal
 
 abbrev pub invariant-loop-i : goal.invariant-loop-i

@@ -1,7 +1,6 @@
 -- `due::due_list` meets its contract: an answer for each of its three tests.
 use mathlib.Core.Path.{refl}
 use Rattle.due.proofs.Listed.{not_whole, unknown_kind, no_room, accepted}
-use borrow.Author.Rules.{rules}
 use Rattle.due.proofs.due_list.Goals as goal
 
 pub returns-then-rows-out : goal.returns-then-rows-out

@@ -1,5 +1,5 @@
 -- `due::kinds_known` meets its contract: the rows before the turn have known kinds, so the question is that of the others.
-use Prim.Native.Nat.{ℕ, suc, ◌+◌, ◌-◌, ◌*◌, ◌≤◌, ◌<◌}
+use Prim.Native.Nat.{ℕ, suc, ◌+◌, ◌-◌, ◌<◌}
 use mathlib.Core.Path.{◌≡◌, sym, ◌∙◌}
 use mathlib.Core.Bool.{◌&&◌}
 use mathlib.Core.List.{List}
@@ -11,7 +11,6 @@ use Rattle.machine.specs.Constants.{cancel, update_timer, row_words}
 use Rattle.due.specs.Due.{rows_of, known_kind, kinds_known}
 use Rattle.due.specs.Places.{row_at}
 use Rattle.due.proofs.Row.{kind_at}
-use borrow.Author.Rules.{rules}
 use borrow.Author.Tests.{le-leb, lt-leb}
 use Rattle.due.proofs.kinds_known.Goals as goal
 

@@ -1,17 +1,8 @@
-use Prim.Native.Nat.{ℕ, suc, ◌+◌, ◌-◌, ◌*◌, ◌≤◌, ◌<◌}
-use mathlib.Core.Path.{◌≡◌, sym, ◌∙◌}
-use mathlib.Core.Bool.{◌&&◌}
-use mathlib.Core.List.{List}
-use native.Mathlib.Nat.{sub-zero}
-use native.Mathlib.Omega.{arith}
+use Prim.Native.Nat.{◌-◌, ◌*◌, ◌≤◌}
+use mathlib.Core.Path.{◌≡◌}
 use lib.ListN.{drop}
-use lib.Seq.{drop-drop}
-use Rattle.machine.specs.Constants.{cancel, update_timer, row_words}
-use Rattle.due.specs.Due.{rows_of, known_kind, kinds_known}
-use Rattle.due.specs.Places.{row_at}
-use Rattle.due.proofs.Row.{kind_at}
-use borrow.Author.Rules.{rules}
-use borrow.Author.Tests.{le-leb, lt-leb}
+use Rattle.machine.specs.Constants.{row_words}
+use Rattle.due.specs.Due.{rows_of, kinds_known}
 use Rattle.due.proofs.kinds_known.Given as goal
 
 abbrev pub invariant-loop-i : goal.invariant-loop-i

@@ -1,21 +1,15 @@
 -- `run_events` meets its contract. The loop's invariant: the whole run is what is ahead, namely the machines from m to
 -- `end` of the event taken last, then the events from i on. The measure counts 17 for each event left, and the machines
 -- left.
-use Prim.Native.Nat.{◌+◌, ◌*◌, ◌-◌, ◌≤◌, ◌<◌}
-use mathlib.Core.Path.{◌≡◌, refl, sym, ap, ◌∙◌}
+use mathlib.Core.Path.{refl, sym, ap, ◌∙◌}
 use native.Mathlib.Omega.{arith}
 use Rattle.machine.specs.Constants.{counter_num}
-use Rattle.machine.specs.Event.{timer_end_kind}
-use Rattle.machine.specs.Words.{lent}
-use Rattle.steps.specs.Events.{each, event_turn}
-use Rattle.steps.specs.Framework.{begin}
 use Rattle.steps.specs.declared.Ran.{Ran}
 use Rattle.transition.specs.Short.{kept_turn, acted_turn}
 use Rattle.transition.specs.Transition.{at_most}
-use Rattle.events.specs.Run.{tables, ran_from}
+use Rattle.events.specs.Run.{ran_from}
 use Rattle.events.proofs.Counts.{kind_fits, event_small}
-use Rattle.events.proofs.Turns.{Ahead, all_ahead, ahead_missing, ahead_counts, ahead_kept, ahead_refused, ahead_done, ahead_ends, ahead_event}
-use borrow.Author.Rules.{rules}
+use Rattle.events.proofs.Turns.{all_ahead, ahead_missing, ahead_counts, ahead_kept, ahead_refused, ahead_done, ahead_ends, ahead_event}
 use Rattle.events.proofs.run_events.Goals as goal
 
 pub loop-m-init : goal.loop-m-init

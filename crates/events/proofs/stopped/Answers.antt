@@ -1,5 +1,4 @@
 -- `stopped` meets its contract.
-use borrow.Author.Rules.{rules}
 use Rattle.events.proofs.stopped.Goals as goal
 
 pub returns : goal.returns

@@ -1,5 +1,4 @@
 -- `all_reached` meets its contract. Assumes nothing.
-use borrow.Author.Rules.{rules}
 use Rattle.limits.proofs.all_reached.Goals as goal
 
 pub returns : goal.returns

@@ -1,5 +1,4 @@
 -- `below_action_limits` meets its contract, by the row's action. Assumes nothing.
-use borrow.Author.Rules.{rules}
 use mathlib.Core.Path.{sym, ◌∙◌}
 use borrow.Author.Tests.{eq-eqb, ne_eqb}
 use Rattle.steps.specs.Limits.{below_action_limits}

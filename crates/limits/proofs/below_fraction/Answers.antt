@@ -1,6 +1,5 @@
 -- `below_fraction` meets its contract: the code's tests in their order are those of the definition.
 -- Assumes nothing.
-use borrow.Author.Rules.{rules}
 use mathlib.Core.Path.{sym, ◌∙◌}
 use borrow.Author.Tests.{eq-eqb, ne_eqb}
 use Rattle.steps.specs.Limits.{below_fraction}

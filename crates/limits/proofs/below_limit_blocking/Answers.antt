@@ -3,7 +3,6 @@
 use mathlib.Core.Path.{sym, ◌∙◌}
 use borrow.Author.Tests.{lt-ltb, le-ltb}
 use Rattle.steps.specs.Limits.{below_limit_blocking}
-use borrow.Author.Rules.{rules}
 use Rattle.limits.proofs.below_limit_blocking.Goals as goal
 
 pub returns-then-replaces_blocking : goal.returns-then-replaces_blocking

@@ -1,6 +1,5 @@
 -- `below_limit_padding` meets its contract: the machine's fraction over what the framework's
 -- leaves. Assumes nothing.
-use borrow.Author.Rules.{rules}
 use borrow.Author.Tests.{lt-ltb, le-ltb}
 use Rattle.steps.specs.Limits.{below_limit_padding}
 use Rattle.limits.proofs.below_limit_padding.Goals as goal

@@ -1,6 +1,5 @@
 -- `blocking_reached` meets its contract: the code's test is that of the definition. Assumes
 -- nothing.
-use borrow.Author.Rules.{rules}
 use Rattle.limits.proofs.blocking_reached.Goals as goal
 
 pub returns-then-f : goal.returns-then-f

@@ -1,5 +1,4 @@
 -- `own_reached` meets its contract. Assumes nothing.
-use borrow.Author.Rules.{rules}
 use Rattle.limits.proofs.own_reached.Goals as goal
 
 pub returns : goal.returns

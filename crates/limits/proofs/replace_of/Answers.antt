@@ -1,5 +1,4 @@
 -- `replace_of` meets its contract: the flags are the row's word. Assumes nothing.
-use borrow.Author.Rules.{rules}
 use Rattle.limits.proofs.replace_of.Goals as goal
 
 pub returns : goal.returns

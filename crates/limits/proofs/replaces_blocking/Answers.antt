@@ -1,5 +1,4 @@
 -- `replaces_blocking` meets its contract, by the flag. Assumes nothing.
-use borrow.Author.Rules.{rules}
 use Rattle.limits.proofs.replaces_blocking.Goals as goal
 
 pub returns-then-replace : goal.returns-then-replace

@@ -1,5 +1,4 @@
 -- `with_ongoing` meets its contract, by whether blocking is on. Assumes nothing.
-use borrow.Author.Rules.{rules}
 use borrow.Author.Tests.{eq-eqb, ne_eqb}
 use Rattle.limits.proofs.with_ongoing.Goals as goal
 

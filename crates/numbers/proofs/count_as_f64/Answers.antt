@@ -1,5 +1,4 @@
 -- `count_as_f64` meets its contract: it is that of the standard library's function. Assumes nothing.
-use Rattle.std.proofs.Common.{rules}
 use Rattle.numbers.proofs.count_as_f64.Goals as goal
 
 pub returns : goal.returns

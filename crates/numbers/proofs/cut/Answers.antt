@@ -1,6 +1,6 @@
 -- `numbers::cut` meets its contract. Each test's constant, which MIR has by its bit pattern, is a
 -- value `fin s m e` once `of_bits` and `neg` are unfolded. Assumes nothing.
-use Rattle.std.proofs.Common.{T, sym, subst, rules}
+use Rattle.std.proofs.Common.{T, sym, subst}
 use lib.Ieee.{of_bits, neg}
 use Rattle.numbers.proofs.Tests.{cut_low, cut_high}
 use Rattle.numbers.proofs.cut.Goals as goal

@@ -1,6 +1,6 @@
 -- `numbers::f32_of_word` meets its contract: the test tells the NaN patterns from the others.
 -- Assumes nothing.
-use Rattle.std.proofs.Common.{◌%◌, rules}
+use Rattle.std.proofs.Common.{◌%◌}
 use lib.Ieee.{binary32, div, of_bits}
 use Rattle.numbers.proofs.Words.{no_nan, nan_word}
 use Rattle.numbers.proofs.f32_of_word.Goals as goal

@@ -1,6 +1,5 @@
 -- `numbers::f64_of_word` meets its contract: the test tells the NaN patterns from the others.
 -- Assumes nothing.
-use Rattle.std.proofs.Common.{rules}
 use lib.Ieee.{binary64, div, of_bits}
 use Rattle.numbers.proofs.Words.{no_nan, nan_word}
 use Rattle.numbers.proofs.f64_of_word.Goals as goal

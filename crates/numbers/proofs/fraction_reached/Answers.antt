@@ -1,6 +1,6 @@
 -- `numbers::fraction_reached` meets its contract: the two counts are what `count_as_f64` ensures.
 -- Assumes nothing.
-use Rattle.std.proofs.Common.{refl, rules}
+use Rattle.std.proofs.Common.{refl}
 use Rattle.numbers.specs.Fraction.{reached}
 use Rattle.numbers.proofs.fraction_reached.Goals as goal
 

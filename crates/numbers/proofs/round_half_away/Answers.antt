@@ -1,6 +1,6 @@
 -- `numbers::round_half_away` meets its contract. Below 2 ^ 62 the sum x + x is exact, and from
 -- there on x is whole. Assumes nothing.
-use Rattle.std.proofs.Common.{ℕ, ◌+◌, ◌/◌, ap, ◌∙◌, arith, rules}
+use Rattle.std.proofs.Common.{ℕ, ◌+◌, ◌/◌, ap, ◌∙◌, arith}
 use lib.Ieee.{of_bits, fits, binary64}
 use denote.Floats.{passes}
 use Rattle.numbers.proofs.Doubled.{halved, whole_above}

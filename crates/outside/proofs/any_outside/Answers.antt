@@ -1,5 +1,4 @@
 -- `any_outside` meets its contract: it reads all five distributions. Assumes nothing.
-use borrow.Author.Rules.{rules}
 use Rattle.outside.specs.Outside.Laws.{none_outside}
 use Rattle.outside.proofs.any_outside.Goals as goal
 

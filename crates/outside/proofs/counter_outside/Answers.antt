@@ -1,5 +1,4 @@
 -- `counter_outside` meets its contract: that there is a counter, and its distribution. Assumes nothing.
-use borrow.Author.Rules.{rules}
 use Rattle.outside.proofs.counter_outside.Goals as goal
 
 pub returns : goal.returns

@@ -1,5 +1,4 @@
 -- `drawn_outside` meets its contract, at the word that `word` ensures. Assumes nothing.
-use borrow.Author.Rules.{rules}
 use Rattle.outside.proofs.drawn_outside.Goals as goal
 
 pub returns : goal.returns

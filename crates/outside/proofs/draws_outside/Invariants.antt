@@ -1,12 +1,9 @@
-use borrow.Author.Rules.{rules}
-use Prim.Native.Nat.{◌*◌, ◌/◌, ◌-◌, ◌≤◌, ◌<◌}
-use mathlib.Core.Path.{◌≡◌, refl, sym, ◌∙◌}
+use Prim.Native.Nat.{◌*◌, ◌-◌, ◌≤◌}
+use mathlib.Core.Path.{◌≡◌}
 use mathlib.Core.Bool.{false}
-use native.Mathlib.Omega.{arith}
 use lib.ListN.{length}
 use Rattle.machine.specs.Constants.{machine_words}
-use Rattle.outside.specs.Outside.{machines_outside, draws_outside}
-use Rattle.outside.specs.Outside.Laws.{machines_some, machines_on}
+use Rattle.outside.specs.Outside.{machines_outside}
 use Rattle.outside.proofs.draws_outside.Given as goal
 
 abbrev pub invariant-loop-i : goal.invariant-loop-i

@@ -1,5 +1,4 @@
 -- `machine_outside` meets its contract: the machine's own part, then its states. Assumes nothing.
-use borrow.Author.Rules.{rules}
 use Rattle.outside.proofs.machine_outside.Goals as goal
 
 pub returns : goal.returns

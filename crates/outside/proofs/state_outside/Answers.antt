@@ -1,6 +1,5 @@
 -- `state_outside` meets its contract: a state of which no distribution is drawn outside, used or not, uses none such.
 -- Assumes nothing.
-use borrow.Author.Rules.{rules}
 use mathlib.Core.Path.{sym}
 use Rattle.outside.proofs.state_outside.Goals as goal
 

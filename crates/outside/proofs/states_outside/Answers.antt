@@ -1,8 +1,7 @@
 -- `states_outside` meets its contract. The loop's invariant: none of the first i states draws outside. Assumes nothing.
 use borrow.Author.Rules.{rules}
-use Prim.Native.Nat.{◌/◌, ◌≤◌, ◌-◌}
+use Prim.Native.Nat.{◌/◌}
 use mathlib.Core.Path.{◌≡◌, refl, sym, ◌∙◌}
-use mathlib.Core.Bool.{false}
 use native.Mathlib.Omega.{arith}
 use lib.ListN.{length}
 use Rattle.machine.specs.Constants.{state_words}

@@ -1,5 +1,4 @@
 -- `used_outside` meets its contract: field by field, the code's tests are the definition's. Assumes nothing.
-use borrow.Author.Rules.{rules}
 use Rattle.outside.specs.Outside.{state_outside}
 use Rattle.outside.proofs.used_outside.Goals as goal
 

@@ -2,7 +2,6 @@
 use mathlib.Core.Path.{sym, ◌∙◌}
 use borrow.Author.Tests.{le-leb, lt-leb}
 use Rattle.rows.specs.Row.{transition_refusal}
-use borrow.Author.Rules.{rules}
 use Rattle.rows.proofs.check_in_order.Goals as goal
 
 pub returns-then-probability_word-ge4294967296 : goal.returns-then-probability_word-ge4294967296

@@ -1,14 +1,11 @@
 -- `check_marked_row` meets its contract. The loop's invariant: the marks are those of the transitions before i, and the
 -- answer is what is left of the check from transition i on. Assumes nothing.
 use borrow.Author.Rules.{rules}
-use Prim.Native.Nat.{◌≤◌, ◌-◌}
-use mathlib.Core.Path.{◌≡◌, refl, sym, ◌∙◌}
+use mathlib.Core.Path.{refl, sym, ◌∙◌}
 use native.Mathlib.Omega.{arith}
-use lib.ListN.{length}
 use Rattle.machine.specs.State.{target_at}
-use Rattle.rows.specs.Row.{row_refusal}
-use Rattle.rows.proofs.Seen.{Met, met_none, met_on, mark_below, by_mark, passed}
-use Rattle.rows.proofs.Rows.{rest, row_starts, row_on, row_stops, row_ends}
+use Rattle.rows.proofs.Seen.{met_none, met_on, mark_below, by_mark, passed}
+use Rattle.rows.proofs.Rows.{row_starts, row_on, row_stops, row_ends}
 use Rattle.rows.proofs.check_marked_row.Goals as goal
 
 pub loop-i-init : goal.loop-i-init

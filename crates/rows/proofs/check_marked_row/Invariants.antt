@@ -1,12 +1,9 @@
-use borrow.Author.Rules.{rules}
 use Prim.Native.Nat.{◌≤◌, ◌-◌}
-use mathlib.Core.Path.{◌≡◌, refl, sym, ◌∙◌}
-use native.Mathlib.Omega.{arith}
+use mathlib.Core.Path.{◌≡◌}
 use lib.ListN.{length}
-use Rattle.machine.specs.State.{target_at}
 use Rattle.rows.specs.Row.{row_refusal}
-use Rattle.rows.proofs.Seen.{Met, met_none, met_on, mark_below, by_mark, passed}
-use Rattle.rows.proofs.Rows.{rest, row_starts, row_on, row_stops, row_ends}
+use Rattle.rows.proofs.Seen.{Met}
+use Rattle.rows.proofs.Rows.{rest}
 use Rattle.rows.proofs.check_marked_row.Given as goal
 
 abbrev pub invariant-loop-i : goal.invariant-loop-i

@@ -1,6 +1,5 @@
 -- `check_one_or_two` meets its contract: a turn of the row's check for the first transition, and one for the second where
 -- there is one. Assumes nothing.
-use borrow.Author.Rules.{rules}
 use native.Mathlib.Omega.{arith}
 use mathlib.Core.Path.{sym, ◌∙◌}
 use Rattle.rows.proofs.Rows.{there_is, first_stops, no_second, second_stops, no_third}

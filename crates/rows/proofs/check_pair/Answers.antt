@@ -2,7 +2,6 @@
 use mathlib.Core.Path.{◌∙◌}
 use native.Mathlib.Omega.{arith}
 use Rattle.rows.proofs.Rows.{beyond, within}
-use borrow.Author.Rules.{rules}
 use Rattle.rows.proofs.check_pair.Goals as goal
 
 pub returns-then-rows-count : goal.returns-then-rows-count

@@ -1,5 +1,4 @@
 -- `check_row_of_many` meets its contract: its marks are clear, and one for each target. Assumes nothing.
-use borrow.Author.Rules.{rules}
 use Rattle.rows.proofs.Bits.{clear}
 use Rattle.rows.proofs.check_row_of_many.Goals as goal
 

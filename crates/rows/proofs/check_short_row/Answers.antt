@@ -1,10 +1,8 @@
 -- `check_short_row` meets its contract. The loop's invariant: the answer is what is left of the check from transition i on,
 -- with the sum of those before it. Assumes nothing.
 use borrow.Author.Rules.{rules}
-use Prim.Native.Nat.{◌≤◌, ◌-◌}
-use mathlib.Core.Path.{◌≡◌, sym, ◌∙◌}
-use Rattle.rows.specs.Row.{row_refusal}
-use Rattle.rows.proofs.Rows.{rest, row_starts, row_on, row_stops, row_ends}
+use mathlib.Core.Path.{sym, ◌∙◌}
+use Rattle.rows.proofs.Rows.{row_starts, row_on, row_stops, row_ends}
 use Rattle.rows.proofs.check_short_row.Goals as goal
 
 pub loop-i-init : goal.loop-i-init

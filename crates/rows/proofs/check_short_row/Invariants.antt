@@ -1,8 +1,7 @@
-use borrow.Author.Rules.{rules}
 use Prim.Native.Nat.{◌≤◌, ◌-◌}
-use mathlib.Core.Path.{◌≡◌, sym, ◌∙◌}
+use mathlib.Core.Path.{◌≡◌}
 use Rattle.rows.specs.Row.{row_refusal}
-use Rattle.rows.proofs.Rows.{rest, row_starts, row_on, row_stops, row_ends}
+use Rattle.rows.proofs.Rows.{rest}
 use Rattle.rows.proofs.check_short_row.Given as goal
 
 abbrev pub invariant-loop-i : goal.invariant-loop-i

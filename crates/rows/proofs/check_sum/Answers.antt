@@ -1,5 +1,4 @@
 -- `check_sum` meets its contract: the code's test is the definition's. Assumes nothing.
-use borrow.Author.Rules.{rules}
 use mathlib.Core.Path.{sym, ◌∙◌}
 use Rattle.rows.specs.Row.{sum_refusal}
 use Rattle.rows.proofs.check_sum.Goals as goal

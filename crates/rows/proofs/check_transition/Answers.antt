@@ -1,5 +1,4 @@
 -- `check_transition` meets its contract: the test picks transitions that only a repeated target can refuse. Assumes nothing.
-use borrow.Author.Rules.{rules}
 use mathlib.Core.Path.{sym, ap, ◌∙◌}
 use mathlib.Core.Bool.{cond}
 use Rattle.rows.proofs.Words.{usual}

@@ -1,5 +1,4 @@
 -- `probability_at` meets its contract: the f32 of its word, by one test where the word is small. Assumes nothing.
-use borrow.Author.Rules.{rules}
 use Prim.Native.Nat.{◌%◌}
 use native.Mathlib.Nat.{le_trans, lt_of_le_of_lt, mod-eq_of_lt}
 use mathlib.Core.Path.{◌≡◌, sym, ap, ◌∙◌}

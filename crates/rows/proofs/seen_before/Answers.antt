@@ -1,8 +1,6 @@
 -- `seen_before` meets its contract. The loop's invariant: the answer is that of the transitions from j on. Assumes nothing.
 use borrow.Author.Rules.{rules}
-use Prim.Native.Nat.{◌≤◌, ◌-◌}
-use mathlib.Core.Path.{◌≡◌, sym, ◌∙◌}
-use Rattle.rows.specs.Row.{seen_in, seen_before}
+use mathlib.Core.Path.{sym, ◌∙◌}
 use Rattle.rows.proofs.Seen.{seen_on, seen_here, seen_end}
 use Rattle.rows.proofs.seen_before.Goals as goal
 

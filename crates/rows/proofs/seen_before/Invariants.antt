@@ -1,8 +1,6 @@
-use borrow.Author.Rules.{rules}
 use Prim.Native.Nat.{◌≤◌, ◌-◌}
-use mathlib.Core.Path.{◌≡◌, sym, ◌∙◌}
+use mathlib.Core.Path.{◌≡◌}
 use Rattle.rows.specs.Row.{seen_in, seen_before}
-use Rattle.rows.proofs.Seen.{seen_on, seen_here, seen_end}
 use Rattle.rows.proofs.seen_before.Given as goal
 
 abbrev pub invariant-loop-j : goal.invariant-loop-j

@@ -7,7 +7,6 @@ use Rattle.sheet.specs.Sheet.{bytes_of}
 use mathlib.Core.Path.{sym}
 use borrow.Author.Tests.{lt-leb}
 use Rattle.sheet.proofs.Room.{both}
-use borrow.Author.Rules.{rules}
 use Rattle.sheet.proofs.lines_fit.Goals as goal
 
 pub returns-then-bytes-machines : goal.returns-then-bytes-machines

@@ -2,7 +2,6 @@
 use mathlib.Core.Path.{sym, ◌∙◌}
 use lib.ListN.{length}
 use Rattle.sheet.proofs.Answered.{fits, malformed, no_room, read_rows}
-use borrow.Author.Rules.{rules}
 use Rattle.sheet.proofs.read.Goals as goal
 
 pub put_tables-requires : goal.put_tables-requires

@@ -2,7 +2,6 @@
 use mathlib.Core.Path.{sym, ◌∙◌}
 use borrow.Author.Tests.{leb-true}
 use Rattle.sheet.proofs.Answered.{not_rows, no_space, written_out}
-use borrow.Author.Rules.{rules}
 use Rattle.sheet.proofs.write.Goals as goal
 
 pub put_sheet-bytes-requires : goal.put_sheet-bytes-requires

@@ -1,5 +1,4 @@
 -- `tables::check_fractions` meets its contract: the code's tests in their order are the definition's. Assumes nothing.
-use borrow.Author.Rules.{rules}
 use mathlib.Core.Path.{sym, ◌∙◌}
 use Rattle.tables.specs.Framework.{fractions_refusal}
 use Rattle.tables.proofs.check_fractions.Goals as goal

@@ -1,13 +1,9 @@
 -- `tables::check_machines` meets its contract. The loop's invariant: the answer is the first refusal from machine i on.
 -- Assumes nothing.
 use borrow.Author.Rules.{rules}
-use Prim.Native.Nat.{◌≤◌, ◌-◌}
-use mathlib.Core.Path.{◌≡◌, sym, ◌∙◌}
+use mathlib.Core.Path.{sym, ◌∙◌}
 use native.Mathlib.Omega.{arith}
 use native.Mathlib.Nat.{sub-zero}
-use Rattle.machine.specs.State.{rows_of}
-use Rattle.rows.specs.First.{first_refusal}
-use Rattle.tables.specs.Machine.{machine_refusal, machines_refusal}
 use Rattle.rows.specs.First.Laws.{first_on, first_here, first_end}
 use Rattle.tables.proofs.Parts.{one_row, one_length}
 use Rattle.tables.proofs.check_machines.Goals as goal

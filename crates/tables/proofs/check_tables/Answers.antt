@@ -1,7 +1,6 @@
 -- `tables::check_tables` meets its contract: the form, then machine by machine. Assumes nothing.
 use mathlib.Core.Path.{sym, ◌∙◌}
 use Rattle.tables.specs.Machine.{tables_refusal}
-use borrow.Author.Rules.{rules}
 use Rattle.tables.proofs.check_tables.Goals as goal
 
 pub returns-then-whole_tables : goal.returns-then-whole_tables

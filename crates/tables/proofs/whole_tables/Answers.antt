@@ -1,7 +1,6 @@
 -- `tables::whole_tables` meets its contract: the code's tests are the definition's. Assumes nothing.
 use mathlib.Core.Path.{sym, ◌∙◌}
 use Rattle.tables.specs.Machine.{whole_tables}
-use borrow.Author.Rules.{rules}
 use Rattle.tables.proofs.whole_tables.Goals as goal
 
 pub returns-then-whole-3 : goal.returns-then-whole-3

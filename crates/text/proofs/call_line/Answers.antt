@@ -2,7 +2,6 @@
 use mathlib.Core.Path.{◌∙◌}
 use lib.ListN.{length-set}
 use Rattle.text.proofs.Lines.{call_lined}
-use borrow.Author.Rules.{rules}
 use Rattle.text.proofs.call_line.Goals as goal
 
 pub shape_of-line : goal.shape_of-line

@@ -1,11 +1,8 @@
 -- `text::call_text` meets its contract: before each turn the text is the call's line, the lines of the rows so far, and
 -- what stood behind them.
-use Prim.Native.Nat.{◌+◌, ◌*◌, ◌-◌, ◌≤◌}
 use mathlib.Core.Path.{◌≡◌, refl, ◌∙◌}
 use native.Mathlib.Omega.{arith}
-use lib.ListN.{length}
-use Rattle.text.proofs.Lines.{Lined, no_row, one_row, all_rows_lem}
-use borrow.Author.Rules.{rules}
+use Rattle.text.proofs.Lines.{no_row, one_row, all_rows_lem}
 use Rattle.text.proofs.call_text.Goals as goal
 
 pub loop-i-init : goal.loop-i-init

@@ -1,9 +1,7 @@
 use Prim.Native.Nat.{◌+◌, ◌*◌, ◌-◌, ◌≤◌}
-use mathlib.Core.Path.{◌≡◌, refl, ◌∙◌}
-use native.Mathlib.Omega.{arith}
+use mathlib.Core.Path.{◌≡◌}
 use lib.ListN.{length}
-use Rattle.text.proofs.Lines.{Lined, no_row, one_row, all_rows_lem}
-use borrow.Author.Rules.{rules}
+use Rattle.text.proofs.Lines.{Lined}
 use Rattle.text.proofs.call_text.Given as goal
 
 abbrev pub invariant-loop-i : goal.invariant-loop-i

@@ -1,13 +1,10 @@
 -- `text::put_chances` meets its contract: the first i floats are those of the first i words, and the others stay.
-use Prim.Native.Nat.{◌-◌, ◌≤◌}
 use mathlib.Core.Path.{◌≡◌, refl}
-use mathlib.Core.List.{map, ◌++◌}
 use native.Mathlib.Omega.{arith}
-use lib.ListN.{length, take, drop, length-set}
+use lib.ListN.{length, length-set}
 use lib.Seq.{take-length}
 use Rattle.text.specs.Words.{chance_of}
 use Rattle.text.proofs.Stores.{taped}
-use borrow.Author.Rules.{rules}
 use Rattle.text.proofs.put_chances.Goals as goal
 
 pub loop-i-init : goal.loop-i-init

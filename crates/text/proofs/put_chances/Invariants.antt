@@ -1,12 +1,8 @@
 use Prim.Native.Nat.{◌-◌, ◌≤◌}
-use mathlib.Core.Path.{◌≡◌, refl}
+use mathlib.Core.Path.{◌≡◌}
 use mathlib.Core.List.{map, ◌++◌}
-use native.Mathlib.Omega.{arith}
-use lib.ListN.{length, take, drop, length-set}
-use lib.Seq.{take-length}
+use lib.ListN.{length, take, drop}
 use Rattle.text.specs.Words.{chance_of}
-use Rattle.text.proofs.Stores.{taped}
-use borrow.Author.Rules.{rules}
 use Rattle.text.proofs.put_chances.Given as goal
 
 abbrev pub invariant-loop-i : goal.invariant-loop-i

@@ -1,6 +1,5 @@
 -- `text::put_row` meets its contract: the line that is put through a part of the text is put in the text.
 use Rattle.text.proofs.Lines.{rowed}
-use borrow.Author.Rules.{rules}
 use Rattle.text.proofs.put_row.Goals as goal
 
 pub returns : goal.returns

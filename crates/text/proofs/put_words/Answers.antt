@@ -1,10 +1,9 @@
 -- `text::put_words` meets its contract: the first i words are those of the bytes, and the others stay.
-use borrow.Author.Rules.{rules}
-use Prim.Native.Nat.{ℕ, ◌-◌, ◌≤◌}
+use Prim.Native.Nat.{ℕ}
 use mathlib.Core.Path.{◌≡◌, refl, ap, ◌∙◌}
 use mathlib.Core.List.{◌++◌}
 use native.Mathlib.Omega.{arith}
-use lib.ListN.{length, drop, length-set}
+use lib.ListN.{drop, length-set}
 use Rattle.text.specs.Words.{words_to}
 use Rattle.text.proofs.Stores.{worded}
 use Rattle.text.proofs.put_words.Goals as goal

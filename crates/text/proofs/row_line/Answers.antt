@@ -2,7 +2,6 @@
 use mathlib.Core.Path.{◌∙◌}
 use lib.ListN.{length-set}
 use Rattle.text.proofs.Lines.{row_lined}
-use borrow.Author.Rules.{rules}
 use Rattle.text.proofs.row_line.Goals as goal
 
 pub shape_of-line : goal.shape_of-line

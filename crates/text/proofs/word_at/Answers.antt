@@ -1,5 +1,4 @@
 -- `text::word_at` meets its contract: a word is its four pairs of bytes.
-use borrow.Author.Rules.{rules}
 use Rattle.text.proofs.Stores.{of_pairs}
 use Rattle.text.proofs.word_at.Goals as goal
 

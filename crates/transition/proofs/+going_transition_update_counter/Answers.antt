@@ -1,11 +1,11 @@
 -- `transition`, `going` and `update_counter` meet their contracts, by induction on how many counters may still report zero in this
 -- call: a CounterZero transition starts with fewer (`fewer`). Assumes nothing.
-use Prim.Native.Nat.{◌+◌, ◌*◌, ◌-◌}
+use Prim.Native.Nat.{◌-◌}
 use native.Mathlib.Omega.{arith}
 use mathlib.Core.Path.{refl, sym, ap, ◌∙◌}
 use borrow.Author.Rules.{rules}
 use borrow.Author.Tests.{eq-eqb, ne_eqb}
-use Rattle.steps.specs.Transition.{left, after_zero, update_counter}
+use Rattle.steps.specs.Transition.{after_zero, update_counter}
 use Rattle.steps.specs.declared.Updated.TheVariants.{Ready}
 use Rattle.transition.specs.Transition.{going_at, transition_by_lem}
 use Rattle.transition.proofs.Counters.{fewer, one_less, on_report}

@@ -5,7 +5,6 @@ use Rattle.steps.specs.Events.{after_transition}
 use Rattle.steps.specs.Transition.{Env}
 use Rattle.steps.specs.declared.Stepped.{Stepped}
 use Rattle.steps.specs.declared.Stepped.TheVariants.{Refused, Done}
-use borrow.Author.Rules.{rules}
 use Rattle.machine.specs.Words.{lent}
 use Rattle.steps.specs.Transition.{env}
 use Rattle.transition.proofs.after_transition.Goals as goal

@@ -1,5 +1,4 @@
 -- `at_limit` meets its contract: the code's test is that of the definition. Assumes nothing.
-use borrow.Author.Rules.{rules}
 use borrow.Author.Tests.{eq-eqb, ne_eqb}
 use Rattle.transition.proofs.at_limit.Goals as goal
 

@@ -1,5 +1,4 @@
 -- `decrement_limit` meets its contract, by whether the limit is used up. Assumes nothing.
-use borrow.Author.Rules.{rules}
 use mathlib.Core.Path.{sym, ◌∙◌}
 use Rattle.steps.specs.Transition.{decrement_limit}
 use Rattle.machine.specs.Constants.{counter_num}

@@ -1,5 +1,4 @@
 -- `stays` meets its contract. Assumes nothing.
-use borrow.Author.Rules.{rules}
 use Rattle.transition.proofs.stays.Goals as goal
 
 pub returns : goal.returns

@@ -2,7 +2,6 @@
 use native.Mathlib.Omega.{arith}
 use borrow.Author.Tests.{eq-eqb, ne_eqb}
 use Rattle.lines.proofs.Kind.{kind_test}
-use borrow.Author.Rules.{rules}
 use Rattle.lines.proofs.reading.has_kind.Goals as goal
 
 pub returns-then-line-eq32-3 : goal.returns-then-line-eq32-3

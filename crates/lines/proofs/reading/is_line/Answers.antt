@@ -1,5 +1,4 @@
 -- `lines::reading::is_line` meets its contract: part by part.
-use borrow.Author.Rules.{rules}
 use mathlib.Core.Path.{refl, sym, ◌∙◌}
 use mathlib.Core.Bool.{true, false}
 use native.Mathlib.Omega.{arith}

@@ -1,16 +1,15 @@
 -- `lines::reading::lines` meets its contract: those before the turn have passed.
-use Prim.Native.Nat.{ℕ, ◌*◌, ◌/◌, ◌-◌, ◌≤◌}
+use Prim.Native.Nat.{ℕ, ◌/◌}
 use mathlib.Core.Path.{◌≡◌, refl, ◌∙◌}
 use mathlib.Core.Bool.{true, false}
 use mathlib.Core.List.{List}
 use native.Mathlib.Omega.{arith}
 use lib.ListN.{length}
 use Rattle.cells.specs.Cells.{leading}
-use Rattle.cells.specs.Laws.{Passed, passed_none, passed_more, passed_fails, passed_all}
+use Rattle.cells.specs.Laws.{passed_none, passed_more, passed_fails, passed_all}
 use Rattle.lines.specs.Lines.{line_bytes, is_line, lines}
 use Rattle.lines.proofs.Places.{one_of, all_of, next_at}
 use Rattle.lines.proofs.Kind.{line_at}
-use borrow.Author.Rules.{rules}
 use Rattle.lines.proofs.reading.lines.Goals as goal
 
 by_size : (text : List ℕ) (kind words size : ℕ) → size ≡ line_bytes words

@@ -1,15 +1,8 @@
-use Prim.Native.Nat.{ℕ, ◌*◌, ◌/◌, ◌-◌, ◌≤◌}
-use mathlib.Core.Path.{◌≡◌, refl, ◌∙◌}
-use mathlib.Core.Bool.{true, false}
-use mathlib.Core.List.{List}
-use native.Mathlib.Omega.{arith}
+use Prim.Native.Nat.{◌*◌, ◌/◌, ◌-◌, ◌≤◌}
+use mathlib.Core.Path.{◌≡◌}
 use lib.ListN.{length}
-use Rattle.cells.specs.Cells.{leading}
-use Rattle.cells.specs.Laws.{Passed, passed_none, passed_more, passed_fails, passed_all}
-use Rattle.lines.specs.Lines.{line_bytes, is_line, lines}
-use Rattle.lines.proofs.Places.{one_of, all_of, next_at}
-use Rattle.lines.proofs.Kind.{line_at}
-use borrow.Author.Rules.{rules}
+use Rattle.cells.specs.Laws.{Passed}
+use Rattle.lines.specs.Lines.{is_line}
 use Rattle.lines.proofs.reading.lines.Given as goal
 
 abbrev pub invariant-loop-at : goal.invariant-loop-at

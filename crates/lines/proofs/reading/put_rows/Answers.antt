@@ -1,12 +1,11 @@
 -- `lines::reading::put_rows` meets its contract: the first i rows are those of the lines, and the other words stay.
-use Prim.Native.Nat.{◌*◌, ◌-◌, ◌≤◌}
+use Prim.Native.Nat.{◌*◌}
 use mathlib.Core.Path.{◌≡◌, refl, ◌∙◌}
-use mathlib.Core.List.{◌++◌}
 use native.Mathlib.Omega.{arith}
-use lib.ListN.{length, drop}
+use lib.ListN.{length}
 use Rattle.machine.specs.Part.{same}
 use Rattle.cells.specs.Cells.{each}
-use Rattle.lines.specs.Lines.{words_of, table_of}
+use Rattle.lines.specs.Lines.{table_of}
 use Rattle.lines.proofs.Places.{inside, next_at}
 use Rattle.lines.proofs.Filled.{one_row}
 use borrow.Author.Rules.{rules}

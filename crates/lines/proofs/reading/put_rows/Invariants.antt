@@ -1,14 +1,9 @@
 use Prim.Native.Nat.{◌*◌, ◌-◌, ◌≤◌}
-use mathlib.Core.Path.{◌≡◌, refl, ◌∙◌}
+use mathlib.Core.Path.{◌≡◌}
 use mathlib.Core.List.{◌++◌}
-use native.Mathlib.Omega.{arith}
 use lib.ListN.{length, drop}
-use Rattle.machine.specs.Part.{same}
 use Rattle.cells.specs.Cells.{each}
-use Rattle.lines.specs.Lines.{words_of, table_of}
-use Rattle.lines.proofs.Places.{inside, next_at}
-use Rattle.lines.proofs.Filled.{one_row}
-use borrow.Author.Rules.{rules}
+use Rattle.lines.specs.Lines.{words_of}
 use Rattle.lines.proofs.reading.put_rows.Given as goal
 
 abbrev pub invariant-loop-i : goal.invariant-loop-i

@@ -1,14 +1,12 @@
 -- `lines::reading::put_words` meets its contract: the first i words are those of the line, and the others stay.
-use Prim.Native.Nat.{◌+◌, ◌*◌, ◌-◌, ◌≤◌}
+use Prim.Native.Nat.{◌+◌, ◌*◌}
 use mathlib.Core.Path.{◌≡◌, refl, ap}
-use mathlib.Core.List.{◌++◌}
 use native.Mathlib.Omega.{arith}
-use lib.ListN.{length, drop, length-set}
-use Rattle.cells.specs.Cells.{word_columns, each, word_in}
+use lib.ListN.{length-set}
+use Rattle.cells.specs.Cells.{word_columns, each}
 use Rattle.lines.specs.Lines.{kind_columns, words_of}
 use Rattle.cells.proofs.Columns.{cell_at}
 use Rattle.lines.proofs.Filled.{one_word}
-use borrow.Author.Rules.{rules}
 use Rattle.lines.proofs.reading.put_words.Goals as goal
 
 pub loop-i-init : goal.loop-i-init

@@ -1,13 +1,9 @@
-use Prim.Native.Nat.{◌+◌, ◌*◌, ◌-◌, ◌≤◌}
-use mathlib.Core.Path.{◌≡◌, refl, ap}
+use Prim.Native.Nat.{◌-◌, ◌≤◌}
+use mathlib.Core.Path.{◌≡◌}
 use mathlib.Core.List.{◌++◌}
-use native.Mathlib.Omega.{arith}
-use lib.ListN.{length, drop, length-set}
+use lib.ListN.{length, drop}
 use Rattle.cells.specs.Cells.{word_columns, each, word_in}
-use Rattle.lines.specs.Lines.{kind_columns, words_of}
-use Rattle.cells.proofs.Columns.{cell_at}
-use Rattle.lines.proofs.Filled.{one_word}
-use borrow.Author.Rules.{rules}
+use Rattle.lines.specs.Lines.{kind_columns}
 use Rattle.lines.proofs.reading.put_words.Given as goal
 
 abbrev pub invariant-loop-i : goal.invariant-loop-i

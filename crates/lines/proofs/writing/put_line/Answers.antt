@@ -4,7 +4,6 @@ use native.Mathlib.Omega.{arith}
 use lib.ListN.{length-set}
 use Rattle.machine.specs.Part.{same}
 use Rattle.lines.proofs.Written.{lined}
-use borrow.Author.Rules.{rules}
 use Rattle.lines.proofs.writing.put_line.Goals as goal
 
 pub shape_of-line : goal.shape_of-line

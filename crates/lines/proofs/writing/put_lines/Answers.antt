@@ -1,14 +1,12 @@
 -- `lines::writing::put_lines` meets its contract: before each turn the sheet is the lines so far, and what stood behind them.
-use Prim.Native.Nat.{◌*◌, ◌-◌, ◌≤◌}
-use mathlib.Core.Path.{◌≡◌, refl, sym, ◌∙◌}
+use mathlib.Core.Path.{refl, sym, ◌∙◌}
 use native.Mathlib.Omega.{arith}
 use native.Mathlib.Numerals.{add-one}
 use native.Mathlib.Nat.{mul-zero, mul-suc}
-use lib.ListN.{length, length-take, length-drop}
+use lib.ListN.{length-take, length-drop}
 use Rattle.machine.specs.Part.{same}
 use Rattle.lines.proofs.Places.{place}
-use Rattle.lines.proofs.Written.{Lines, no_line, one_line, all_lines}
-use borrow.Author.Rules.{rules}
+use Rattle.lines.proofs.Written.{no_line, one_line, all_lines}
 use Rattle.lines.proofs.writing.put_lines.Goals as goal
 
 pub loop-i-init : goal.loop-i-init

@@ -1,13 +1,7 @@
 use Prim.Native.Nat.{◌*◌, ◌-◌, ◌≤◌}
-use mathlib.Core.Path.{◌≡◌, refl, sym, ◌∙◌}
-use native.Mathlib.Omega.{arith}
-use native.Mathlib.Numerals.{add-one}
-use native.Mathlib.Nat.{mul-zero, mul-suc}
-use lib.ListN.{length, length-take, length-drop}
-use Rattle.machine.specs.Part.{same}
-use Rattle.lines.proofs.Places.{place}
-use Rattle.lines.proofs.Written.{Lines, no_line, one_line, all_lines}
-use borrow.Author.Rules.{rules}
+use mathlib.Core.Path.{◌≡◌}
+use lib.ListN.{length}
+use Rattle.lines.proofs.Written.{Lines}
 use Rattle.lines.proofs.writing.put_lines.Given as goal
 
 abbrev pub invariant-loop-i : goal.invariant-loop-i

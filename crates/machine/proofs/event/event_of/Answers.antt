@@ -1,5 +1,4 @@
 -- `event_of` meets its contract: the code's test is that of the definition. Assumes nothing.
-use borrow.Author.Rules.{rules}
 use borrow.Author.Tests.{lt-ltb, le-ltb}
 use Rattle.machine.specs.Event.{event_of}
 use Rattle.machine.proofs.event.event_of.Goals as goal

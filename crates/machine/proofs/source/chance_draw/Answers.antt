@@ -1,5 +1,4 @@
 -- `chance_draw` meets its contract: by the source that is meant, then the code's tests in their order. Assumes nothing.
-use borrow.Author.Rules.{rules}
 use borrow.Author.Tests.{lt-ltb, le-ltb, eq-eqb, ne_eqb}
 use Rattle.machine.specs.Source.{chance_draw}
 use Rattle.machine.proofs.source.chance_draw.Goals as goal

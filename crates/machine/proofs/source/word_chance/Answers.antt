@@ -1,5 +1,4 @@
 -- `word_chance` meets its contract: the code's test is the definition's. Assumes nothing.
-use borrow.Author.Rules.{rules}
 use borrow.Author.Tests.{lt-ltb, le-ltb}
 use Rattle.machine.specs.Source.{chance_draw}
 use Rattle.machine.proofs.source.word_chance.Goals as goal

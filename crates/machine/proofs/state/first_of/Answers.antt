@@ -1,5 +1,4 @@
 -- `first_of` meets its contract: a count that is not 0 stands in the row, and so does the word before it. Assumes nothing.
-use borrow.Author.Rules.{rules}
 use native.Mathlib.Omega.{arith}
 use native.Mathlib.Decide.{dec_lt}
 use Prim.Native.Nat.{ℕ, ◌+◌, ◌*◌, ◌<◌}

@@ -1,12 +1,10 @@
 -- `sample_state` meets its contract. The invariant: the whole walk is what is left of it, from row
 -- i on with the sum so far. Assumes nothing.
 use borrow.Author.Rules.{rules}
-use Prim.Native.Nat.{◌+◌, ◌-◌, ◌≤◌}
-use mathlib.Core.Path.{◌≡◌, sym, ◌∙◌}
+use Prim.Native.Nat.{◌+◌}
+use mathlib.Core.Path.{sym, ◌∙◌}
 use native.Mathlib.Omega.{arith}
 use native.Mathlib.Nat.{add-sub_cancel_left}
-use lib.Ieee.{binary32, of_bits}
-use Rattle.machine.specs.State.{walk}
 use Rattle.machine.proofs.Walk.{row_within, row_beyond, walk_on, walk_stops, walk_ends}
 use Rattle.machine.proofs.state.sample_state.Goals as goal
 

@@ -1,11 +1,7 @@
-use borrow.Author.Rules.{rules}
-use Prim.Native.Nat.{◌+◌, ◌-◌, ◌≤◌}
-use mathlib.Core.Path.{◌≡◌, sym, ◌∙◌}
-use native.Mathlib.Omega.{arith}
-use native.Mathlib.Nat.{add-sub_cancel_left}
+use Prim.Native.Nat.{◌-◌, ◌≤◌}
+use mathlib.Core.Path.{◌≡◌}
 use lib.Ieee.{binary32, of_bits}
 use Rattle.machine.specs.State.{walk}
-use Rattle.machine.proofs.Walk.{row_within, row_beyond, walk_on, walk_stops, walk_ends}
 use Rattle.machine.proofs.state.sample_state.Given as goal
 
 abbrev pub invariant-loop-i : goal.invariant-loop-i

@@ -1,6 +1,5 @@
 -- `state_rows` meets its contract: start and end, cut at the table's length, give the part that was
 -- asked for. Assumes nothing.
-use borrow.Author.Rules.{rules}
 use Prim.Native.Nat.{◌*◌}
 use native.Mathlib.Nat.{add-sub_cancel_left}
 use Rattle.machine.specs.Constants.{state_words}

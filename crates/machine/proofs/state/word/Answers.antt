@@ -1,5 +1,4 @@
 -- `word` meets its contract: past a row's end `get_or` is its default. Assumes nothing.
-use borrow.Author.Rules.{rules}
 use mathlib.Core.Path.{sym}
 use lib.ListN.{get_or-eq_default}
 use Rattle.machine.proofs.state.word.Goals as goal

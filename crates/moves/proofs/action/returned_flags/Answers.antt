@@ -1,5 +1,4 @@
 -- `returned_flags` meets its contract, by the row's action. Assumes nothing.
-use borrow.Author.Rules.{rules}
 use mathlib.Core.Path.{sym, ◌∙◌}
 use borrow.Author.Tests.{eq-eqb, ne_eqb}
 use Rattle.moves.proofs.action.returned_flags.Goals as goal

@@ -1,5 +1,4 @@
 -- `schedule_action` meets its contract, by what was drawn. Assumes nothing.
-use borrow.Author.Rules.{rules}
 use mathlib.Core.Path.{sym, ◌∙◌}
 use Rattle.steps.specs.Transition.{schedule_action}
 use Rattle.moves.proofs.action.schedule_action.Goals as goal

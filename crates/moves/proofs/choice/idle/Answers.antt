@@ -1,6 +1,5 @@
 -- `idle` meets its contract: the code's tests in their order are those of the definition. Assumes
 -- nothing.
-use borrow.Author.Rules.{rules}
 use borrow.Author.Tests.{eq-eqb, ne_eqb}
 use Rattle.moves.specs.Choice.{idle}
 use Rattle.moves.proofs.choice.idle.Goals as goal

@@ -1,7 +1,6 @@
 -- `settle` meets its contract, by the limit that was drawn and by what the counters report. Assumes nothing.
 use mathlib.Core.Path.{sym, ◌∙◌}
 use Rattle.moves.specs.Short.{settle}
-use borrow.Author.Rules.{rules}
 use Rattle.moves.proofs.settle.settle.Goals as goal
 
 pub returns-then-t : goal.returns-then-t

@@ -1,7 +1,6 @@
 -- `settle_in` meets its contract, by the limits and by what was drawn. Assumes nothing.
 use mathlib.Core.Path.{sym, ◌∙◌}
 use Rattle.moves.specs.Short.{settle_in}
-use borrow.Author.Rules.{rules}
 use Rattle.moves.proofs.settle.settle_in.Goals as goal
 
 pub returns-in-Refused : goal.returns-in-Refused

@@ -2,7 +2,6 @@
 use mathlib.Core.Path.{sym, ◌∙◌}
 use borrow.Author.Tests.{eq-eqb, ne_eqb}
 use Rattle.moves.specs.Short.{short}
-use borrow.Author.Rules.{rules}
 use Rattle.moves.proofs.settle.short_way.Goals as goal
 
 pub returns-in_default : goal.returns-in_default

@@ -1,5 +1,4 @@
 -- `after_zero` meets its contract, by whether the step was refused. Assumes nothing.
-use borrow.Author.Rules.{rules}
 use Rattle.moves.proofs.step.after_zero.Goals as goal
 
 pub returns-in-Refused : goal.returns-in-Refused

@@ -1,5 +1,4 @@
 -- `enter` meets its contract, by the state and by what was drawn. Assumes nothing.
-use borrow.Author.Rules.{rules}
 use mathlib.Core.Path.{sym, ◌∙◌}
 use borrow.Author.Tests.{eq-eqb, ne_eqb}
 use Rattle.steps.specs.Transition.{enter}

@@ -1,6 +1,5 @@
 -- `finish` meets its contract, by whether an action is scheduled and by what was drawn. Assumes
 -- nothing.
-use borrow.Author.Rules.{rules}
 use mathlib.Core.Path.{sym, ◌∙◌}
 use Rattle.steps.specs.Transition.{finish}
 use Rattle.moves.proofs.step.finish.Goals as goal

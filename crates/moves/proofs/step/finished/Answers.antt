@@ -1,5 +1,4 @@
 -- `finished` meets its contract, by whether the counter update was refused. Assumes nothing.
-use borrow.Author.Rules.{rules}
 use Rattle.moves.proofs.step.finished.Goals as goal
 
 pub returns-in-Refused : goal.returns-in-Refused

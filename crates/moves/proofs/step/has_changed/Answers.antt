@@ -1,5 +1,4 @@
 -- `has_changed` meets its contract, by the update's own answer. Assumes nothing.
-use borrow.Author.Rules.{rules}
 use Rattle.moves.proofs.step.has_changed.Goals as goal
 
 pub returns : goal.returns

@@ -1,5 +1,4 @@
 -- `raise` meets its contract, by whether a signal is pending. Assumes nothing.
-use borrow.Author.Rules.{rules}
 use borrow.Author.Tests.{eq-eqb, ne_eqb}
 use Rattle.steps.specs.Transition.{raise}
 use Rattle.moves.proofs.step.raise.Goals as goal

@@ -1,5 +1,4 @@
 -- `marks::mark` meets its contract: 1 << k is 2 ^ k, since k is below 64. Assumes nothing.
-use borrow.Author.Rules.{rules}
 use native.Mathlib.Omega.{arith}
 use Prim.Native.Nat.{◌%◌}
 use Rattle.rows.specs.Marks.{marked}

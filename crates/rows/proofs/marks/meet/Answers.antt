@@ -1,5 +1,4 @@
 -- `marks::meet` meets its contract: the mark is read, and then set. Assumes nothing.
-use borrow.Author.Rules.{rules}
 use Rattle.rows.proofs.marks.meet.Goals as goal
 
 pub returns : goal.returns

@@ -1,6 +1,5 @@
 -- `has_limit` meets its contract, at the words that `word` ensures. Assumes nothing.
 use Rattle.samples.specs.Action.{has_limit}
-use borrow.Author.Rules.{rules}
 use Rattle.samples.proofs.action.has_limit.Goals as goal
 
 pub returns : goal.returns

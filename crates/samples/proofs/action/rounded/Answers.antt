@@ -1,5 +1,4 @@
 -- `rounded` meets its contract, by what was drawn. Assumes nothing.
-use borrow.Author.Rules.{rules}
 use Rattle.samples.proofs.action.rounded.Goals as goal
 
 pub returns-in-Refused : goal.returns-in-Refused

@@ -1,5 +1,4 @@
 -- `sample_at` meets its contract: by the source that is meant. Assumes nothing.
-use borrow.Author.Rules.{rules}
 use borrow.Author.Tests.{eq-eqb, ne_eqb}
 use Rattle.samples.proofs.action.sample_at.Goals as goal
 

@@ -1,6 +1,5 @@
 -- `sample_duration` meets its contract: what its functions ensure, put together. Assumes nothing.
 use Rattle.samples.specs.Action.{sample_duration}
-use borrow.Author.Rules.{rules}
 use Rattle.samples.proofs.action.sample_duration.Goals as goal
 
 pub returns-then-action : goal.returns-then-action

@@ -3,7 +3,6 @@
 use mathlib.Core.Path.{sym, ◌∙◌}
 use Rattle.samples.specs.Action.{sample_limit}
 use Rattle.samples.proofs.Whole.{rounded_fits}
-use borrow.Author.Rules.{rules}
 use Rattle.samples.proofs.action.sample_limit.Goals as goal
 
 pub returns-then-has_limit : goal.returns-then-has_limit

@@ -1,5 +1,4 @@
 -- `cut_draw` meets its contract, by what was drawn. Assumes nothing.
-use borrow.Author.Rules.{rules}
 use Rattle.samples.proofs.counter.cut_draw.Goals as goal
 
 pub returns-in-Refused : goal.returns-in-Refused

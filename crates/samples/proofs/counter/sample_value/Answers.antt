@@ -2,7 +2,6 @@
 use mathlib.Core.Path.{sym, ◌∙◌}
 use borrow.Author.Tests.{eq-eqb, ne_eqb}
 use Rattle.samples.specs.Counter.{sample_value}
-use borrow.Author.Rules.{rules}
 use Rattle.samples.proofs.counter.sample_value.Goals as goal
 
 pub returns-then-word-eq-ABSENT : goal.returns-then-word-eq-ABSENT

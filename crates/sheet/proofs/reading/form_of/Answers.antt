@@ -1,5 +1,4 @@
 -- `sheet::reading::form_of` meets its contract: the lines of each kind behind those of the kind before.
-use borrow.Author.Rules.{rules}
 use Rattle.sheet.proofs.Formed.{formed, formed_inside}
 use Rattle.sheet.proofs.reading.form_of.Goals as goal
 

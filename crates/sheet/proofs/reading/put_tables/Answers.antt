@@ -1,6 +1,5 @@
 -- `sheet::reading::put_tables` meets its contract: each table's lines stand where those of the kinds before end.
 use Rattle.sheet.proofs.Formed.{states_at_lem, transitions_at_lem}
-use borrow.Author.Rules.{rules}
 use Rattle.sheet.proofs.reading.put_tables.Goals as goal
 
 pub returns : goal.returns

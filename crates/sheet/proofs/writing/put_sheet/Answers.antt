@@ -2,7 +2,6 @@
 use mathlib.Core.Path.{sym, ◌∙◌}
 use native.Mathlib.Omega.{arith}
 use Rattle.sheet.proofs.Written.{length-sheet, sheeted}
-use borrow.Author.Rules.{rules}
 use Rattle.sheet.proofs.writing.put_sheet.Goals as goal
 
 pub returns : goal.returns

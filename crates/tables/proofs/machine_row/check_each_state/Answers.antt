@@ -1,14 +1,10 @@
 -- `machine_row::check_each_state` meets its contract. The loop's invariant: the answer is the first refusal from state i on.
 -- Assumes nothing.
 use borrow.Author.Rules.{rules}
-use Prim.Native.Nat.{◌≤◌, ◌-◌}
-use mathlib.Core.Path.{◌≡◌, sym, ◌∙◌}
+use mathlib.Core.Path.{sym, ◌∙◌}
 use native.Mathlib.Omega.{arith}
 use native.Mathlib.Nat.{sub-zero}
 use Rattle.machine.specs.Constants.{state_words}
-use Rattle.machine.specs.State.{state_row}
-use Rattle.rows.specs.First.{first_refusal}
-use Rattle.tables.specs.State.{state_refusal}
 use Rattle.tables.specs.Machine.{each_state}
 use Rattle.rows.specs.First.Laws.{first_on, first_here, first_end}
 use Rattle.tables.proofs.Parts.{one_row, one_length}

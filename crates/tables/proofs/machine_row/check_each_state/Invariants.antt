@@ -1,15 +1,9 @@
-use borrow.Author.Rules.{rules}
 use Prim.Native.Nat.{◌≤◌, ◌-◌}
-use mathlib.Core.Path.{◌≡◌, sym, ◌∙◌}
-use native.Mathlib.Omega.{arith}
-use native.Mathlib.Nat.{sub-zero}
-use Rattle.machine.specs.Constants.{state_words}
+use mathlib.Core.Path.{◌≡◌}
 use Rattle.machine.specs.State.{state_row}
 use Rattle.rows.specs.First.{first_refusal}
 use Rattle.tables.specs.State.{state_refusal}
 use Rattle.tables.specs.Machine.{each_state}
-use Rattle.rows.specs.First.Laws.{first_on, first_here, first_end}
-use Rattle.tables.proofs.Parts.{one_row, one_length}
 use Rattle.tables.proofs.machine_row.check_each_state.Given as goal
 
 abbrev pub invariant-loop-i : goal.invariant-loop-i

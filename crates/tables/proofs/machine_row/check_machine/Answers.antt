@@ -1,5 +1,4 @@
 -- `machine_row::check_machine` meets its contract: the code's tests in their order are the definition's. Assumes nothing.
-use borrow.Author.Rules.{rules}
 use mathlib.Core.Path.{sym, ◌∙◌}
 use Rattle.tables.specs.Machine.{machine_refusal}
 use Rattle.tables.proofs.machine_row.check_machine.Goals as goal

@@ -1,5 +1,4 @@
 -- `state::action_invalid` meets its contract: action by action, the code's tests are the definition's. Assumes nothing.
-use borrow.Author.Rules.{rules}
 use mathlib.Core.Path.{sym, ◌∙◌}
 use borrow.Author.Tests.{eq-eqb, ne_eqb}
 use Rattle.tables.specs.State.{action_invalid}

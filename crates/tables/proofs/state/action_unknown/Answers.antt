@@ -7,7 +7,6 @@ use mathlib.Core.Path.{◌≡◌, refl, sym, ◌∙◌}
 use mathlib.Core.Bool.{Bool, true, false, cond}
 use borrow.Author.Tests.{eq-eqb, ne_eqb}
 use Rattle.tables.specs.State.{action_unknown}
-use borrow.Author.Rules.{rules}
 use Rattle.tables.proofs.state.action_unknown.Goals as goal
 
 each-true : (a : ℕ) → true ≡ cond (eqb a 2) true (cond (eqb a 3) true (cond (eqb a 4) true true))

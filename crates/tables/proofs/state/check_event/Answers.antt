@@ -1,7 +1,6 @@
 -- `state::check_event` meets its contract: a count of 0 refuses nothing. Assumes nothing.
 use borrow.Author.Tests.{eq-eqb}
 use Rattle.rows.specs.Row.{pair_refusal}
-use borrow.Author.Rules.{rules}
 use Rattle.tables.proofs.state.check_event.Goals as goal
 
 pub returns-then-count-eq0 : goal.returns-then-count-eq0

@@ -1,10 +1,6 @@
 -- `state::check_events` meets its contract. The loop's invariant: the answer is the first refusal from this event on. Assumes nothing.
 use borrow.Author.Rules.{rules}
-use Prim.Native.Nat.{◌≤◌, ◌-◌}
-use mathlib.Core.Path.{◌≡◌, refl, sym, ◌∙◌}
-use Rattle.machine.specs.State.{first_of, count_of}
-use Rattle.rows.specs.First.{first_refusal}
-use Rattle.rows.specs.Row.{pair_refusal}
+use mathlib.Core.Path.{refl, sym, ◌∙◌}
 use Rattle.tables.specs.State.{events_refusal}
 use Rattle.rows.specs.First.Laws.{first_on, first_here, first_end}
 use Rattle.tables.proofs.state.check_events.Goals as goal

@@ -1,11 +1,9 @@
-use borrow.Author.Rules.{rules}
 use Prim.Native.Nat.{◌≤◌, ◌-◌}
-use mathlib.Core.Path.{◌≡◌, refl, sym, ◌∙◌}
+use mathlib.Core.Path.{◌≡◌}
 use Rattle.machine.specs.State.{first_of, count_of}
 use Rattle.rows.specs.First.{first_refusal}
 use Rattle.rows.specs.Row.{pair_refusal}
 use Rattle.tables.specs.State.{events_refusal}
-use Rattle.rows.specs.First.Laws.{first_on, first_here, first_end}
 use Rattle.tables.proofs.state.check_events.Given as goal
 
 abbrev pub invariant-loop-event : goal.invariant-loop-event

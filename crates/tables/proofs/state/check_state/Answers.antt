@@ -1,5 +1,4 @@
 -- `state::check_state` meets its contract: the code's tests in their order are the definition's. Assumes nothing.
-use borrow.Author.Rules.{rules}
 use mathlib.Core.Path.{sym, ◌∙◌}
 use Rattle.rows.specs.First.{or_else}
 use Rattle.tables.specs.State.{state_refusal}

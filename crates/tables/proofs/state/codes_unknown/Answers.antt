@@ -1,5 +1,4 @@
 -- `state::codes_unknown` meets its contract: action, counter A, counter B. Assumes nothing.
-use borrow.Author.Rules.{rules}
 use mathlib.Core.Path.{sym, ◌∙◌}
 use Rattle.tables.specs.State.{codes_unknown}
 use Rattle.tables.proofs.state.codes_unknown.Goals as goal

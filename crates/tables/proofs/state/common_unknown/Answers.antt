@@ -1,7 +1,6 @@
 -- `state::common_unknown` meets its contract: the code's tests are the definition's. Assumes nothing.
 use mathlib.Core.Path.{sym, ◌∙◌}
 use Rattle.tables.specs.State.{common_unknown}
-use borrow.Author.Rules.{rules}
 use Rattle.tables.proofs.state.common_unknown.Goals as goal
 
 pub returns-then-above : goal.returns-then-above

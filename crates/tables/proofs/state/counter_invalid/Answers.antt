@@ -1,5 +1,4 @@
 -- `state::counter_invalid` meets its contract: no counter, or its distribution. Assumes nothing.
-use borrow.Author.Rules.{rules}
 use borrow.Author.Tests.{eq-eqb, ne_eqb}
 use Rattle.tables.specs.State.{counter_invalid}
 use Rattle.tables.proofs.state.counter_invalid.Goals as goal

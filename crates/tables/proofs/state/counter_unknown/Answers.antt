@@ -2,7 +2,6 @@
 use mathlib.Core.Path.{sym, ◌∙◌}
 use borrow.Author.Tests.{eq-eqb, ne_eqb}
 use Rattle.tables.specs.State.{counter_unknown}
-use borrow.Author.Rules.{rules}
 use Rattle.tables.proofs.state.counter_unknown.Goals as goal
 
 pub returns-then-row-k-eq0 : goal.returns-then-row-k-eq0

@@ -1,5 +1,4 @@
 -- `state::dists_invalid` meets its contract: action, counter A, counter B. Assumes nothing.
-use borrow.Author.Rules.{rules}
 use mathlib.Core.Path.{sym, ◌∙◌}
 use Rattle.tables.specs.State.{dists_invalid}
 use Rattle.tables.proofs.state.dists_invalid.Goals as goal

@@ -1,5 +1,4 @@
 -- `state::invalid` meets its contract: only a Uniform can be invalid, and by its bounds. Assumes nothing.
-use borrow.Author.Rules.{rules}
 use mathlib.Core.Path.{sym, ◌∙◌}
 use borrow.Author.Tests.{ne_eqb}
 use Rattle.dists.specs.Dist.{dist_at, validate}

@@ -1,7 +1,6 @@
 -- `state::needed_unknown` meets its contract: the code's tests are the definition's. Assumes nothing.
 use borrow.Author.Tests.{eq-eqb, ne_eqb}
 use Rattle.tables.specs.State.{needed_unknown}
-use borrow.Author.Rules.{rules}
 use Rattle.tables.proofs.state.needed_unknown.Goals as goal
 
 pub returns-then-row-k-eq-ABSENT : goal.returns-then-row-k-eq-ABSENT
