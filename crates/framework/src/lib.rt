@@ -18,7 +18,7 @@ use machine::state::word;
 use steps::{Answer, AnswerWords, Framework, Opened, OpenedWords, Ran, Verdict};
 
 mod checks; // refusals 18 and 19
-mod output; // its rows
+mod output; // the output rows
 mod start; // the machines of an opening
 
 // What an opening refuses before it draws: the fractions, then the tables.
