@@ -18,7 +18,7 @@ use machine::state::word;
 use steps::{Answer, AnswerWords, Framework, Opened, OpenedWords, Ran, Verdict};
 
 mod checks; // refusals 18 and 19
-mod rows; // the output rows
+mod output; // the output rows
 mod start; // the machines of an opening
 
 // What an opening refuses before it draws: the fractions, then the tables.
@@ -252,7 +252,7 @@ fn accepted(ran: Ran, out: &mut [u64]) -> Answer
     let actions = ran.actions;
     let s = ran.shared;
     let count = numbers::smaller(f.machines, 16) as usize;
-    let rows = rows::put_rows(actions, count, out);
+    let rows = output::put_rows(actions, count, out);
     let mut ended = 0;
     let mut m = 0;
     while m < count {

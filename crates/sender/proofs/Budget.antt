@@ -10,9 +10,9 @@ use Rattle.steps.specs.Words.{Lent, on_tapes, on_words, opening_on, batch_on}
 use Rattle.steps.specs.Budget.{answer_of, Ledger, empty, after_call, ledger, Lists, packets, Budgets}
 use Rattle.steps.proofs.Budget.Theorem.{no_budget_overdrawn}
 use Rattle.steps.specs.declared.Framework.{Framework}
+use Rattle.sender.specs.Budget.{ReplyTo, refusal_in, actions_in, Made, replied_refusal, replied_actions, Leaves, Kept, History, after_made, ledger_of, ListsOf}
 use Rattle.sender.specs.declared.Reply.{Reply}
 use Rattle.sender.specs.declared.ReplyWords.{ReplyWords}
-use Rattle.sender.specs.Budget.{ReplyTo, refusal_in, actions_in, Made, replied_refusal, replied_actions, Leaves, Kept, History, after_made, ledger_of, ListsOf}
 
 -- ---- of either kind, it left what the call by value gives
 record Gives (b : Batch) (y : Framework) (n k : ℕ) (z : List ℕ) : Type 0 where

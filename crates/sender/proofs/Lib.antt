@@ -1,2 +1,2 @@
--- Theorems about the definitions of specs/.
+-- The theorem over the calls that change the framework in place.
 pub mod Budget

@@ -1,5 +1,5 @@
--- Demand 3 for the calls that change the framework in place, on two tapes or on words: calls that were made, and what is counted from
--- their replies and outputs. The theorem is in proofs/Budget.antt.
+-- What demand 3 says of the calls that change the framework in place, on two tapes or on words: calls in a row, and what is counted
+-- from their replies and outputs. The theorem is `Rattle.sender.proofs.Budget`.
 use Rattle.std.specs.Prelude.{ℕ, cond, List, [], ◌∷◌, ◌≡◌, T, eqb}
 use Rattle.machine.specs.Source.{tapes}
 use Rattle.steps.specs.Events.{Tables}

@@ -7,7 +7,7 @@ use mathlib.Core.List.{List, [], ◌∷◌}
 use native.Mathlib.Omega.{arith}
 use lib.ListN.{length, set, drop, length-set}
 use borrow.Author.Tests.{eq-eqb, ne_eqb}
-use Rattle.framework.proofs.rows.put_row.Goals as goal
+use Rattle.framework.proofs.output.put_row.Goals as goal
 
 six : (l : List ℕ) (a b c d e f : ℕ) → 6 ≤ length l →
     set (set (set (set (set (set l 0 a) 1 b) 2 c) 3 d) 4 e) 5 f ≡ a ∷ b ∷ c ∷ d ∷ e ∷ f ∷ drop 6 l

@@ -8,7 +8,7 @@ use lib.ListN.{length, get_or, length-take, length-drop}
 use Rattle.steps.specs.Transition.{no_action}
 use Rattle.steps.specs.Framework.{action_rows, written}
 use Rattle.framework.proofs.Written.{row_short, rows_longer, row_written, same}
-use Rattle.framework.proofs.rows.put_rows.Goals as goal
+use Rattle.framework.proofs.output.put_rows.Goals as goal
 
 pub loop-m-init : goal.loop-m-init
 unfolding action_rows
