@@ -7,3 +7,4 @@ pub mod Merged
 pub mod Halves
 pub mod Placed
 pub mod Listed
+pub mod Laws
