@@ -1,5 +1,5 @@
 -- A number's digits, read back.
-use Rattle.std.proofs.Common.{◌≡◌, ℕ, ◌+◌, ◌*◌, ◌/◌, ◌%◌, ◌<◌, ◌≤◌, ap, ◌∙◌, arith}
+use Rattle.std.proofs.Common.{◌≡◌, ℕ, ◌+◌, ◌/◌, ◌%◌, ◌<◌, ◌≤◌, ap, ◌∙◌, arith}
 use Rattle.columns.specs.Digits.{digits, one_digit, more_digits, by_tenths, read_back, read_digit, read_more}
 
 -- THEOREM: its digits, read back, are the number.

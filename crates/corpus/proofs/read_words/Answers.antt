@@ -1,7 +1,6 @@
 -- `corpus::read_words` is safe.
 use native.Mathlib.Omega.{arith}
 use lib.ListN.{length-take, length-drop, length-append}
-use borrow.Author.Rules.{rules}
 use Rattle.corpus.proofs.read_words.Goals as goal
 
 pub slice_bounds-read_full-end : goal.slice_bounds-read_full-end

@@ -1,7 +1,5 @@
 -- `accepted` meets its contract: the rows are those of the run's machines, and those of them that have ended are counted. The loop's
 -- invariant: `ended` of the machines passed have ended.
-use borrow.Author.Rules.{rules}
-use Prim.Native.Nat.{◌-◌, ◌≤◌}
 use mathlib.Core.Path.{◌≡◌, refl, ap, ◌∙◌}
 use native.Mathlib.Omega.{arith}
 use Rattle.steps.specs.Framework.{ended_in}

@@ -1,9 +1,6 @@
-use borrow.Author.Rules.{rules}
 use Prim.Native.Nat.{◌-◌, ◌≤◌}
-use mathlib.Core.Path.{◌≡◌, refl, ap, ◌∙◌}
-use native.Mathlib.Omega.{arith}
+use mathlib.Core.Path.{◌≡◌}
 use Rattle.steps.specs.Framework.{ended_in}
-use Rattle.framework.proofs.Ended.{one_more, at_most}
 use Rattle.framework.proofs.accepted.Given as goal
 
 abbrev pub invariant-loop-m : goal.invariant-loop-m

@@ -1,5 +1,4 @@
 -- `all_machines_ended` meets its contract.
-use borrow.Author.Rules.{rules}
 use Rattle.steps.specs.Framework.{all_machines_ended}
 use Rattle.framework.proofs.all_machines_ended.Goals as goal
 

@@ -1,7 +1,5 @@
 -- `batch_on` meets its contract: refused before the run, stopped in it, or accepted. The loop's invariant: `fit` says whether the states of
 -- the machines passed fit, and `ended` of them have ended.
-use borrow.Author.Rules.{rules}
-use Prim.Native.Nat.{◌-◌, ◌≤◌}
 use mathlib.Core.Path.{◌≡◌, refl, sym, ◌∙◌}
 use native.Mathlib.Omega.{arith}
 use borrow.Author.Tests.{eq-eqb}

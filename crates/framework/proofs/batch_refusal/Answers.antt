@@ -1,5 +1,4 @@
 -- `batch_refusal` meets its contract: the tables first, then 24 with words, then 18, 19 and 20.
-use borrow.Author.Rules.{rules}
 use mathlib.Core.Path.{refl, sym, ◌∙◌}
 use borrow.Author.Tests.{lt-ltb, le-ltb}
 use Rattle.steps.specs.Framework.{batch_refusal}

@@ -1,5 +1,4 @@
 -- `batch_words` meets its contract: it is `batch_on` from words, and its answer in words.
-use borrow.Author.Rules.{rules}
 use Rattle.machine.specs.Words.Laws.{lent_words}
 use Rattle.steps.specs.Words.{batch_on}
 use Rattle.framework.proofs.batch_words.Goals as goal

@@ -1,5 +1,4 @@
 -- `open_refusal` meets its contract: the fractions first, then the tables.
-use borrow.Author.Rules.{rules}
 use mathlib.Core.Path.{sym, ◌∙◌}
 use Rattle.framework.proofs.Checked.{first_is, then_is}
 use Rattle.framework.proofs.open_refusal.Goals as goal

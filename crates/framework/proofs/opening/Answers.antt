@@ -1,5 +1,4 @@
 -- `opening` meets its contract: its checks, then the machines.
-use borrow.Author.Rules.{rules}
 use mathlib.Core.Path.{sym, ◌∙◌}
 use borrow.Author.Tests.{eq-eqb, ne_eqb}
 use Rattle.steps.specs.Framework.{opening}

@@ -1,5 +1,4 @@
 -- `opening_words` meets its contract: its checks, 24, then the machines.
-use borrow.Author.Rules.{rules}
 use mathlib.Core.Path.{sym, ◌∙◌}
 use borrow.Author.Tests.{eq-eqb, ne_eqb}
 use Rattle.machine.specs.Words.Laws.{lent_words}

@@ -1,5 +1,4 @@
 -- `outside` meets its contract.
-use borrow.Author.Rules.{rules}
 use Rattle.framework.proofs.outside.Goals as goal
 
 pub returns-then-raw : goal.returns-then-raw

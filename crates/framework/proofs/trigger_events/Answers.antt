@@ -1,6 +1,5 @@
 -- `trigger_events` meets its contract: a stop among the events is a stop of the whole, and with no signal pending
 -- they are all of it.
-use borrow.Author.Rules.{rules}
 use mathlib.Core.Path.{ap, ◌∙◌}
 use borrow.Author.Tests.{eq-eqb}
 use Prim.Native.Nat.{◌/◌}

@@ -1,17 +1,15 @@
 -- `linkrun::calls` meets its contract: what is left of the input's text behind the bytes handed over is what the calls that are
 -- left print.
-use Prim.Native.Nat.{ℕ, ◌+◌, ◌*◌, ◌-◌, ◌≤◌}
+use Prim.Native.Nat.{ℕ, ◌+◌, ◌-◌}
 use native.Mathlib.Omega.{arith}
 use native.Mathlib.Nat.{sub-zero}
 use mathlib.Core.Path.{◌≡◌, refl, sym, ap, ◌∙◌}
-use mathlib.Core.Bool.{Bool, true, false}
-use lib.ListN.{length, drop, length-take}
+use lib.ListN.{drop, length-take}
 use Rattle.stream.specs.Stream.{call_at}
 use Rattle.stream.specs.Inside.{call_inside, calls_few}
 use Rattle.run.specs.declared.Standing.{Standing}
 use Rattle.run.specs.Run.{calls_text, input_text, printed}
 use Rattle.linkrun.proofs.Parts.{turn, part, behind, none_left, next_is}
-use borrow.Author.Rules.{rules}
 use Rattle.linkrun.proofs.calls.Goals as goal
 
 pub loop-i-init : goal.loop-i-init

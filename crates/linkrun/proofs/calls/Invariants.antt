@@ -1,15 +1,8 @@
-use Prim.Native.Nat.{ℕ, ◌+◌, ◌*◌, ◌-◌, ◌≤◌}
-use native.Mathlib.Omega.{arith}
-use native.Mathlib.Nat.{sub-zero}
-use mathlib.Core.Path.{◌≡◌, refl, sym, ap, ◌∙◌}
-use mathlib.Core.Bool.{Bool, true, false}
-use lib.ListN.{length, drop, length-take}
+use Prim.Native.Nat.{◌+◌, ◌*◌, ◌-◌, ◌≤◌}
+use mathlib.Core.Path.{◌≡◌}
+use lib.ListN.{length, drop}
 use Rattle.stream.specs.Stream.{call_at}
-use Rattle.stream.specs.Inside.{call_inside, calls_few}
-use Rattle.run.specs.declared.Standing.{Standing}
-use Rattle.run.specs.Run.{calls_text, input_text, printed}
-use Rattle.linkrun.proofs.Parts.{turn, part, behind, none_left, next_is}
-use borrow.Author.Rules.{rules}
+use Rattle.run.specs.Run.{calls_text, input_text}
 use Rattle.linkrun.proofs.calls.Given as goal
 
 abbrev pub invariant-loop-i : goal.invariant-loop-i

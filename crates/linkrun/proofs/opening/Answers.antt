@@ -8,7 +8,6 @@ use Rattle.text.specs.Printed.{call_text}
 use Rattle.text.proofs.Lines.{length-call_text}
 use Rattle.run.specs.Run.{input_text}
 use Rattle.linkrun.proofs.Parts.{part, behind, no_rows, opens, opens_refused, opens_accepted, at_first}
-use borrow.Author.Rules.{rules}
 use Rattle.linkrun.proofs.opening.Goals as goal
 
 pub slice_bounds-hand_over-end : goal.slice_bounds-hand_over-end

@@ -10,7 +10,6 @@ use Rattle.stream.specs.Stream.{check_of}
 use Rattle.stream.proofs.Input.{taken_up}
 use Rattle.run.specs.Run.{input_text, run_text}
 use Rattle.linkrun.proofs.Parts.{part, behind, no_rows, input_refused, input_accepted}
-use borrow.Author.Rules.{rules}
 use Rattle.linkrun.proofs.print.Goals as goal
 
 pub slice_bounds-hand_over-end : goal.slice_bounds-hand_over-end

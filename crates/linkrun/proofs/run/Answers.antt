@@ -6,7 +6,6 @@ use lib.ListN.{length, take, length-take, length-map}
 use lib.Seq.{take_at}
 use Rattle.text.specs.Words.{chance_of, chances, value_of, values}
 use Rattle.stream.specs.Inside.{tapes_inside}
-use borrow.Author.Rules.{rules}
 use Rattle.linkrun.proofs.run.Goals as goal
 
 pub put_chances-requires : goal.put_chances-requires

@@ -1,4 +1,3 @@
-use native.Mathlib.Omega.{arith}
 use Rattle.replay.proofs.main.Given as goal
 
 abbrev pub invariant-loop-left : goal.invariant-loop-left

@@ -1,5 +1,5 @@
 -- `replay::replay_calls` is safe and ends: before each turn the place is that of the next call.
-use Prim.Native.Nat.{ℕ, ◌+◌, ◌≤◌, ◌<◌, ◌-◌}
+use Prim.Native.Nat.{ℕ, ◌+◌, ◌≤◌, ◌<◌}
 use mathlib.Core.Path.{◌≡◌, ap, ◌∙◌}
 use mathlib.Core.List.{List}
 use native.Mathlib.Numerals.{add-one}
@@ -8,7 +8,6 @@ use Rattle.stream.specs.declared.Layout.{Layout}
 use Rattle.stream.specs.declared.Call.{Call}
 use Rattle.stream.specs.Stream.{call_at, check_of, next_call}
 use Rattle.stream.specs.Inside.{call_inside}
-use borrow.Author.Rules.{rules}
 use native.Mathlib.Omega.{arith}
 use Rattle.replay.proofs.replay_calls.Goals as goal
 

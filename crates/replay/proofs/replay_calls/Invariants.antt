@@ -1,14 +1,7 @@
-use Prim.Native.Nat.{ℕ, ◌+◌, ◌≤◌, ◌<◌, ◌-◌}
-use mathlib.Core.Path.{◌≡◌, ap, ◌∙◌}
-use mathlib.Core.List.{List}
-use native.Mathlib.Numerals.{add-one}
-use lib.ListN.{length, get_or}
-use Rattle.stream.specs.declared.Layout.{Layout}
-use Rattle.stream.specs.declared.Call.{Call}
-use Rattle.stream.specs.Stream.{call_at, check_of, next_call}
-use Rattle.stream.specs.Inside.{call_inside}
-use borrow.Author.Rules.{rules}
-use native.Mathlib.Omega.{arith}
+use Prim.Native.Nat.{◌≤◌, ◌-◌}
+use mathlib.Core.Path.{◌≡◌}
+use lib.ListN.{get_or}
+use Rattle.stream.specs.Stream.{call_at}
 use Rattle.replay.proofs.replay_calls.Given as goal
 
 abbrev pub invariant-loop-i : goal.invariant-loop-i

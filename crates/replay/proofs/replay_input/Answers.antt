@@ -5,7 +5,6 @@ use mathlib.Core.List.{List}
 use lib.ListN.{length, length-take}
 use Rattle.stream.specs.Stream.{check_of, chance_words, value_words}
 use Rattle.stream.specs.Inside.{tapes_inside}
-use borrow.Author.Rules.{rules}
 use native.Mathlib.Omega.{arith}
 use Rattle.replay.proofs.replay_input.Goals as goal
 

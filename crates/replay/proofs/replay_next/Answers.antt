@@ -1,7 +1,6 @@
 -- `replay::replay_next` is safe.
 use native.Mathlib.Omega.{arith}
 use lib.ListN.{length-take}
-use borrow.Author.Rules.{rules}
 use Rattle.replay.proofs.replay_next.Goals as goal
 
 pub slice_bounds-words-end : goal.slice_bounds-words-end

@@ -4,7 +4,6 @@ use mathlib.Core.Path.{◌≡◌, ap, ◌∙◌}
 use Rattle.steps.specs.Framework.{Batch}
 use Rattle.run.specs.Run.{batch_at}
 use Rattle.run.proofs.Called.{answered, stood, prints, rows_few}
-use borrow.Author.Rules.{rules}
 use Rattle.run.proofs.one_call.Goals as goal
 
 pub call_text-bytes-requires : goal.call_text-bytes-requires

@@ -2,7 +2,6 @@
 use mathlib.Core.Path.{◌≡◌, ap}
 use Rattle.stream.specs.declared.Layout.{Layout}
 use Rattle.run.specs.Run.{started, opened_of}
-use borrow.Author.Rules.{rules}
 use Rattle.run.proofs.start.Goals as goal
 
 pub returns : goal.returns

@@ -3,7 +3,6 @@ use mathlib.Core.Path.{sym}
 use native.Mathlib.Omega.{arith}
 use lib.Seq.{length-take-le}
 use Rattle.sheet_check.proofs.Judged.{read_inside, judged}
-use borrow.Author.Rules.{rules}
 use Rattle.sheet_check.proofs.judge.Goals as goal
 
 pub overflow_mul-m : goal.overflow_mul-m

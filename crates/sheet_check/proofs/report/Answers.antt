@@ -2,7 +2,6 @@
 use lib.ListN.{length}
 use borrow.Author.Tests.{lt-ltb, le-ltb}
 use Rattle.sheet_check.specs.Verdict.{sheet_room, report_line}
-use borrow.Author.Rules.{rules}
 use Rattle.sheet_check.proofs.report.Goals as goal
 
 pub returns-then-bytes-gt-SHEET : goal.returns-then-bytes-gt-SHEET

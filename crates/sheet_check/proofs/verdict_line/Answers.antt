@@ -2,7 +2,6 @@
 use mathlib.Core.Path.{◌∙◌}
 use lib.ListN.{length-set}
 use Rattle.sheet_check.proofs.Judged.{lined}
-use borrow.Author.Rules.{rules}
 use Rattle.sheet_check.proofs.verdict_line.Goals as goal
 
 pub shape_of-line : goal.shape_of-line

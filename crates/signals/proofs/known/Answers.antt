@@ -1,5 +1,4 @@
 -- `known` meets its contract, arm by arm.
-use borrow.Author.Rules.{rules}
 use borrow.Author.Tests.{le-leb, lt-leb}
 use Rattle.signals.proofs.known.Goals as goal
 

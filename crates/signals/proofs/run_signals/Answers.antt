@@ -1,15 +1,10 @@
 -- `run_signals` meets its contract. The loop's invariant: the whole round is what the machines from m to `end` are
 -- still to hear, and what follows it. The measure counts 17 for the last signal, and the machines left.
-use borrow.Author.Rules.{rules}
-use Prim.Native.Nat.{◌+◌, ◌*◌, ◌-◌, ◌≤◌, min}
-use mathlib.Core.Path.{◌≡◌, refl, sym, ◌∙◌}
+use mathlib.Core.Path.{refl, sym, ◌∙◌}
 use native.Mathlib.Omega.{arith}
 use Rattle.machine.specs.Constants.{counter_num}
-use Rattle.machine.specs.Words.{lent}
-use Rattle.steps.specs.Events.{signals}
-use Rattle.events.specs.Run.{tables, run}
 use Rattle.transition.specs.Transition.{at_most}
-use Rattle.signals.proofs.Heard.{known_is, Heard, heard_all, heard_skip, heard_turn, heard_stops}
+use Rattle.signals.proofs.Heard.{known_is, heard_all, heard_skip, heard_turn, heard_stops}
 use Rattle.signals.proofs.Heard.{heard_last, heard_quiet, heard_dropped, heard_again}
 use Rattle.signals.proofs.run_signals.Goals as goal
 

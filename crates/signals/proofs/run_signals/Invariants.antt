@@ -1,14 +1,9 @@
-use borrow.Author.Rules.{rules}
 use Prim.Native.Nat.{◌+◌, ◌*◌, ◌-◌, ◌≤◌, min}
-use mathlib.Core.Path.{◌≡◌, refl, sym, ◌∙◌}
-use native.Mathlib.Omega.{arith}
-use Rattle.machine.specs.Constants.{counter_num}
+use mathlib.Core.Path.{◌≡◌}
 use Rattle.machine.specs.Words.{lent}
 use Rattle.steps.specs.Events.{signals}
 use Rattle.events.specs.Run.{tables, run}
-use Rattle.transition.specs.Transition.{at_most}
-use Rattle.signals.proofs.Heard.{known_is, Heard, heard_all, heard_skip, heard_turn, heard_stops}
-use Rattle.signals.proofs.Heard.{heard_last, heard_quiet, heard_dropped, heard_again}
+use Rattle.signals.proofs.Heard.{Heard}
 use Rattle.signals.proofs.run_signals.Given as goal
 
 abbrev pub invariant-loop-m : goal.invariant-loop-m

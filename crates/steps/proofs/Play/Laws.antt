@@ -7,7 +7,7 @@ use Rattle.std.proofs.Common.{arith, sym, ap, ◌∙◌, length-drop, lt-ltb, le
 use Rattle.std.specs.Float.{nan}
 use Rattle.machine.specs.Source.{Drawn, no, got, Source, fit_chance, fit_uniform, any_value, place, on_tape, tapes}
 use Rattle.machine.specs.declared.source.Place.{Place}
-use Rattle.steps.specs.Play.{Play, ends, attempts, ask_chance, ask_uniform, ask_outside, after, run, Alike, run_alike, Counts, attempted, chanced, valued, Leaves, Bounds, Served}
+use Rattle.steps.specs.Play.{Play, ends, attempts, ask_chance, ask_uniform, ask_outside, after, run, Alike, run_alike, Counts, attempted, chanced, valued, Leaves, Served}
 use Rattle.steps.specs.Play.Laws.{Given, chance_given, value_given, given_by, worked_out, Fit, Honest, retold}
 
 -- ---- a tape from a position on

@@ -1,11 +1,9 @@
 -- The draws that a source gives on its way down a tree of questions, worked out (`worked_out`), and which sources are honest. Definitions; what holds
 -- of them is in proofs/Play/Laws.antt.
-use Rattle.std.specs.Prelude.{ℕ, zero, suc, ◌+◌, ◌-◌, ◌≤◌, ◌<◌, Bool, true, false, cond, List, [], ◌∷◌, ◌≡◌, refl, length, get_or, drop, Float}
-use Rattle.std.proofs.Common.{arith, sym, ap, ◌∙◌, length-drop, lt-ltb, le-ltb}
-use Rattle.std.specs.Float.{nan}
-use Rattle.machine.specs.Source.{Drawn, no, got, Source, fit_chance, fit_uniform, any_value, place, on_tape, tapes}
+use Rattle.std.specs.Prelude.{Bool, true, List, [], ◌∷◌, ◌≡◌, Float}
+use Rattle.machine.specs.Source.{Drawn, no, got, Source, fit_chance, fit_uniform}
 use Rattle.machine.specs.declared.source.Place.{Place}
-use Rattle.steps.specs.Play.{Play, ends, attempts, ask_chance, ask_uniform, ask_outside, after, run, Alike, run_alike, Counts, attempted, chanced, valued, Leaves, Bounds, Served}
+use Rattle.steps.specs.Play.{Play, ends, attempts, ask_chance, ask_uniform, ask_outside, Bounds}
 
 -- ---- The draws that a source gives on its way down a tree: the tapes worked out, chances and values, each in the order of asking.
 pub record Given : Type 0 where

@@ -1,7 +1,6 @@
 -- `stream::after` meets its contract: the test by division is exact.
 use native.Mathlib.Omega.{arith}
 use Rattle.stream.proofs.Clip.{too_many, room_for}
-use borrow.Author.Rules.{rules}
 use Rattle.stream.proofs.after.Goals as goal
 
 pub returns-then-end-at-2 : goal.returns-then-end-at-2

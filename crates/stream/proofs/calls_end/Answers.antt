@@ -1,11 +1,7 @@
 -- `stream::calls_end` meets its contract: before each turn `at` is where call i starts, or one past the end.
-use Prim.Native.Nat.{◌-◌, ◌≤◌}
-use mathlib.Core.Path.{◌≡◌}
 use native.Mathlib.Omega.{arith}
 use Rattle.stream.specs.Stream.{call_at}
-use Rattle.stream.specs.Within.{within}
 use Rattle.stream.proofs.Clip.{next_call_lem, beyond, all_calls}
-use borrow.Author.Rules.{rules}
 use Rattle.stream.proofs.calls_end.Goals as goal
 
 pub loop-i-init : goal.loop-i-init

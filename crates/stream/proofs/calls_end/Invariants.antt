@@ -1,10 +1,7 @@
 use Prim.Native.Nat.{◌-◌, ◌≤◌}
 use mathlib.Core.Path.{◌≡◌}
-use native.Mathlib.Omega.{arith}
 use Rattle.stream.specs.Stream.{call_at}
 use Rattle.stream.specs.Within.{within}
-use Rattle.stream.proofs.Clip.{next_call_lem, beyond, all_calls}
-use borrow.Author.Rules.{rules}
 use Rattle.stream.proofs.calls_end.Given as goal
 
 abbrev pub invariant-loop-i : goal.invariant-loop-i

@@ -4,10 +4,8 @@ use mathlib.Core.Path.{◌≡◌, ap, sym, ◌∙◌}
 use lib.ListN.{length}
 use mathlib.Core.Bool.{true, false}
 use Rattle.stream.specs.declared.Layout.{Layout}
-use Rattle.stream.specs.Stream.{narrow}
 use Rattle.stream.specs.Inside.{in_order}
 use Rattle.stream.proofs.Clip.{exact, ends, wrong_end, right_end}
-use borrow.Author.Rules.{rules}
 use Rattle.stream.proofs.check.Goals as goal
 
 pub calls_end-end-requires : goal.calls_end-end-requires

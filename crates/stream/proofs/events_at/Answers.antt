@@ -4,7 +4,6 @@ use native.Mathlib.Omega.{arith}
 use Rattle.stream.specs.declared.Call.{Call}
 use Rattle.stream.specs.Stream.{events_of}
 use Rattle.stream.proofs.Clip.{cut}
-use borrow.Author.Rules.{rules}
 use Rattle.stream.proofs.events_at.Goals as goal
 
 pub between-requires : goal.between-requires

@@ -3,7 +3,6 @@ use native.Mathlib.Omega.{arith}
 use mathlib.Core.Path.{sym, ◌∙◌}
 use lib.ListN.{length-take}
 use Rattle.stream.proofs.Input.{size_fits, size_refused, size_taken}
-use borrow.Author.Rules.{rules}
 use Rattle.stream.proofs.load.Goals as goal
 
 pub returns-then-size_refusal-ne0 : goal.returns-then-size_refusal-ne0

@@ -3,7 +3,6 @@ use mathlib.Core.Path.{refl, ap, ◌∙◌}
 use Rattle.stream.specs.declared.Layout.{Layout}
 use Rattle.stream.specs.Stream.{machine_table, states_at}
 use Rattle.stream.proofs.Clip.{cut}
-use borrow.Author.Rules.{rules}
 use Rattle.stream.proofs.machine_table.Goals as goal
 
 pub returns : goal.returns

@@ -1,11 +1,7 @@
 -- `stream::narrow` meets its contract: what is left of the words answers as all of them do.
-use Prim.Native.Nat.{◌-◌, ◌≤◌}
-use mathlib.Core.Path.{◌≡◌, refl, sym, ◌∙◌}
+use mathlib.Core.Path.{refl, sym, ◌∙◌}
 use native.Mathlib.Omega.{arith}
-use lib.ListN.{length, drop}
-use Rattle.stream.specs.Stream.{narrow}
 use Rattle.stream.proofs.Chances.{small, large, none_left}
-use borrow.Author.Rules.{rules}
 use Rattle.stream.proofs.narrow.Goals as goal
 
 pub loop-i-init : goal.loop-i-init

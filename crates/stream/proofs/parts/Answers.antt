@@ -2,7 +2,6 @@
 use mathlib.Core.Path.{◌∙◌}
 use Rattle.stream.specs.Inside.{accepted, parts_inside}
 use Rattle.stream.proofs.Clip.{exact}
-use borrow.Author.Rules.{rules}
 use Rattle.stream.proofs.parts.Goals as goal
 
 pub returns : goal.returns

@@ -3,7 +3,6 @@ use Prim.Native.Nat.{◌+◌}
 use lib.ListN.{length}
 use Rattle.stream.specs.Stream.{states_at, transitions_at, chances_at, values_at, calls_at}
 use Rattle.stream.proofs.Clip.{behind, behind_tape, laid_by}
-use borrow.Author.Rules.{rules}
 use Rattle.stream.proofs.places.Goals as goal
 
 pub returns : goal.returns

@@ -3,7 +3,6 @@ use mathlib.Core.Path.{ap, ◌∙◌}
 use Rattle.stream.specs.declared.Layout.{Layout}
 use Rattle.stream.specs.Stream.{state_table, transitions_at}
 use Rattle.stream.proofs.Clip.{cut}
-use borrow.Author.Rules.{rules}
 use Rattle.stream.proofs.state_table.Goals as goal
 
 pub returns : goal.returns

@@ -3,7 +3,6 @@ use mathlib.Core.Path.{ap, ◌∙◌}
 use Rattle.stream.specs.declared.Layout.{Layout}
 use Rattle.stream.specs.Stream.{transition_table, chances_at}
 use Rattle.stream.proofs.Clip.{cut}
-use borrow.Author.Rules.{rules}
 use Rattle.stream.proofs.transition_table.Goals as goal
 
 pub returns : goal.returns

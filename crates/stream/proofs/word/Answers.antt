@@ -1,7 +1,6 @@
 -- `stream::word` meets its contract: past the end it is 0.
 use mathlib.Core.Path.{sym}
 use lib.ListN.{get_or-eq_default}
-use borrow.Author.Rules.{rules}
 use Rattle.stream.proofs.word.Goals as goal
 
 pub returns-else-k-words : goal.returns-else-k-words

@@ -1,5 +1,4 @@
 -- `tables_test::long_row` is safe and ends.
-use borrow.Author.Rules.{rules}
 use Prim.Native.Nat.{◌≤◌, ◌-◌}
 use Rattle.tables_test.proofs.long_row.Given as goal
 

@@ -1,6 +1,5 @@
 -- `machines` stays within its array: the loop's invariant says that i is at most one more than the most machines. Assumes nothing.
 use Prim.Native.Nat.{◌≤◌, ◌+◌, ◌-◌}
-use borrow.Author.Rules.{rules}
 use Rattle.machine.specs.Constants.{machine_max}
 use Rattle.tables_test.proofs.machines.Given as goal
 

@@ -1,15 +1,7 @@
-use borrow.Author.Rules.{rules}
-use Prim.Native.Nat.{ℕ, ◌+◌, ◌-◌, ◌/◌, ◌≤◌, ◌<◌}
-use mathlib.Core.Path.{◌≡◌, refl, sym}
-use mathlib.Core.Bool.{true, false}
-use native.Mathlib.Omega.{arith}
-use mathlib.Core.List.{List}
-use lib.Dec.{leb}
-use lib.ListN.{length}
-use borrow.Author.Tests.{eq-eqb, ne_eqb, le-leb, lt-leb}
-use Rattle.steps.specs.Events.{kind_at}
-use Rattle.steps.specs.Framework.{kinds_fit, events_fit}
-use Rattle.events.proofs.All.{all_more, all_fails}
+use Prim.Native.Nat.{◌-◌, ◌≤◌}
+use mathlib.Core.Path.{◌≡◌}
+use mathlib.Core.Bool.{true}
+use Rattle.steps.specs.Framework.{kinds_fit}
 use Rattle.framework.proofs.checks.events_fit.Given as goal
 
 abbrev pub invariant-loop-i : goal.invariant-loop-i

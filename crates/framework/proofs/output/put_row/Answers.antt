@@ -1,6 +1,5 @@
 -- `put_row` meets its contract: no action writes nothing, and six stores at the front of a list are the row and
 -- what came after.
-use borrow.Author.Rules.{rules}
 use Prim.Native.Nat.{ℕ, ◌≤◌}
 use mathlib.Core.Path.{◌≡◌, refl}
 use mathlib.Core.List.{List, [], ◌∷◌}

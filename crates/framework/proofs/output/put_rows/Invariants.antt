@@ -1,11 +1,7 @@
-use borrow.Author.Rules.{rules}
-use Prim.Native.Nat.{ℕ, ◌*◌, ◌-◌, ◌/◌, ◌≤◌}
-use mathlib.Core.Path.{◌≡◌, refl, ap, ◌∙◌}
-use native.Mathlib.Omega.{arith}
-use lib.ListN.{length, get_or, length-take, length-drop}
-use Rattle.steps.specs.Transition.{no_action}
+use Prim.Native.Nat.{◌*◌, ◌-◌, ◌≤◌}
+use mathlib.Core.Path.{◌≡◌}
+use lib.ListN.{length}
 use Rattle.steps.specs.Framework.{action_rows, written}
-use Rattle.framework.proofs.Written.{row_short, rows_longer, row_written, same}
 use Rattle.framework.proofs.output.put_rows.Given as goal
 
 abbrev pub invariant-loop-m : goal.invariant-loop-m

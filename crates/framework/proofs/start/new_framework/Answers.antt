@@ -1,5 +1,4 @@
 -- `new_framework` meets its contract: sixteen machines, all zero.
-use borrow.Author.Rules.{rules}
 use Rattle.framework.proofs.start.new_framework.Goals as goal
 
 pub returns : goal.returns

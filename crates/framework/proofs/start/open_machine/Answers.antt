@@ -1,7 +1,6 @@
 -- `open_machine` meets its contract, by the limit that was drawn.
 use mathlib.Core.Path.{sym, ◌∙◌}
 use Rattle.steps.specs.Framework.{open_machine}
-use borrow.Author.Rules.{rules}
 use Rattle.framework.proofs.start.open_machine.Goals as goal
 
 pub returns-in-Refused : goal.returns-in-Refused

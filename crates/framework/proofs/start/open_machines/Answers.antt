@@ -1,15 +1,9 @@
 -- `open_machines` meets its contract. The loop's invariant: the whole opening is what is left of it from machine m
 -- on.
-use borrow.Author.Rules.{rules}
-use Prim.Native.Nat.{ℕ, ◌-◌, ◌≤◌}
-use mathlib.Core.Path.{◌≡◌, refl, sym, ◌∙◌}
-use mathlib.Core.List.{List, []}
+use mathlib.Core.Path.{refl, sym, ◌∙◌}
 use native.Mathlib.Nat.{sub-zero}
 use native.Mathlib.Omega.{arith}
-use Rattle.steps.specs.Framework.{open_run}
-use Rattle.machine.specs.Words.{lent}
-use Rattle.events.specs.Run.{tables}
-use Rattle.framework.proofs.Opens.{Opens, opens_end, opens_on, opens_stop}
+use Rattle.framework.proofs.Opens.{opens_end, opens_on, opens_stop}
 use Rattle.framework.proofs.start.open_machines.Goals as goal
 
 pub loop-m-init : goal.loop-m-init

@@ -1,13 +1,10 @@
-use borrow.Author.Rules.{rules}
 use Prim.Native.Nat.{ℕ, ◌-◌, ◌≤◌}
-use mathlib.Core.Path.{◌≡◌, refl, sym, ◌∙◌}
+use mathlib.Core.Path.{◌≡◌}
 use mathlib.Core.List.{List, []}
-use native.Mathlib.Nat.{sub-zero}
-use native.Mathlib.Omega.{arith}
 use Rattle.steps.specs.Framework.{open_run}
 use Rattle.machine.specs.Words.{lent}
 use Rattle.events.specs.Run.{tables}
-use Rattle.framework.proofs.Opens.{Opens, opens_end, opens_on, opens_stop}
+use Rattle.framework.proofs.Opens.{Opens}
 use Rattle.framework.proofs.start.open_machines.Given as goal
 
 abbrev pub invariant-loop-m : goal.invariant-loop-m

@@ -1,5 +1,4 @@
 -- `start_limit` meets its contract: without an action the limit is 0, else it is the sample.
-use borrow.Author.Rules.{rules}
 use mathlib.Core.Path.{sym, ◌∙◌}
 use borrow.Author.Tests.{eq-eqb, ne_eqb}
 use Rattle.steps.specs.Framework.{start_limit}

@@ -1,5 +1,4 @@
 -- `unopened` meets its contract.
-use borrow.Author.Rules.{rules}
 use Rattle.framework.proofs.start.unopened.Goals as goal
 
 pub returns : goal.returns

@@ -1,9 +1,5 @@
 -- `replay::answer::difference` meets its contract: the words passed are the same in both. The measure is what a u64 has left.
-use Prim.Native.Nat.{ℕ, ◌<◌, ◌-◌}
-use mathlib.Core.Path.{◌≡◌}
 use borrow.Author.Count.{below_more}
-use lib.ListN.{get_or}
-use borrow.Author.Rules.{rules}
 use native.Mathlib.Omega.{arith}
 use Rattle.replay.proofs.answer.difference.Goals as goal
 

@@ -1,9 +1,6 @@
 use Prim.Native.Nat.{ℕ, ◌<◌, ◌-◌}
 use mathlib.Core.Path.{◌≡◌}
-use borrow.Author.Count.{below_more}
 use lib.ListN.{get_or}
-use borrow.Author.Rules.{rules}
-use native.Mathlib.Omega.{arith}
 use Rattle.replay.proofs.answer.difference.Given as goal
 
 abbrev pub invariant-loop-i : goal.invariant-loop-i

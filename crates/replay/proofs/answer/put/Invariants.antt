@@ -1,5 +1,4 @@
 -- `replay::answer::put` is safe and ends.
-use borrow.Author.Rules.{rules}
 use Prim.Native.Nat.{◌≤◌, ◌-◌}
 use Rattle.replay.proofs.answer.put.Given as goal
 

@@ -1,5 +1,4 @@
 -- `replay::answer::put_state` is safe and ends.
-use borrow.Author.Rules.{rules}
 use Prim.Native.Nat.{◌≤◌, ◌-◌}
 use Rattle.replay.proofs.answer.put_state.Given as goal
 

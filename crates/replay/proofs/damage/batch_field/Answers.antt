@@ -1,7 +1,6 @@
 -- `replay::damage::batch_field` is safe.
 use native.Mathlib.Omega.{arith}
 use lib.ListN.{length-take}
-use borrow.Author.Rules.{rules}
 use Rattle.replay.proofs.damage.batch_field.Goals as goal
 
 pub slice_bounds-lent_batch-end : goal.slice_bounds-lent_batch-end

@@ -1,5 +1,4 @@
 -- `replay::damage::on_accepted` is safe and ends.
-use borrow.Author.Rules.{rules}
 use Prim.Native.Nat.{◌≤◌, ◌-◌}
 use Rattle.replay.proofs.damage.on_accepted.Given as goal
 

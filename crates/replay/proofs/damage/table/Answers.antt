@@ -1,7 +1,6 @@
 -- `replay::damage::table` is safe.
 use native.Mathlib.Omega.{arith}
 use lib.ListN.{length-take}
-use borrow.Author.Rules.{rules}
 use Rattle.replay.proofs.damage.table.Goals as goal
 
 pub slice_bounds-result-end : goal.slice_bounds-result-end

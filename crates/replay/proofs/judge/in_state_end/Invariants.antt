@@ -1,5 +1,4 @@
 -- `replay::judge::in_state_end` is safe and ends.
-use borrow.Author.Rules.{rules}
 use Prim.Native.Nat.{◌≤◌, ◌-◌}
 use Rattle.replay.proofs.judge.in_state_end.Given as goal
 

@@ -1,6 +1,5 @@
 -- `replay::judge::lent_batch` is safe.
 use lib.ListN.{length-take}
-use borrow.Author.Rules.{rules}
 use native.Mathlib.Omega.{arith}
 use Rattle.replay.proofs.judge.lent_batch.Goals as goal
 

@@ -1,5 +1,4 @@
 -- `replay::judge::start_limits` is safe and ends.
-use borrow.Author.Rules.{rules}
 use Prim.Native.Nat.{◌≤◌, ◌-◌}
 use Rattle.replay.proofs.judge.start_limits.Given as goal
 

@@ -1,7 +1,5 @@
 -- `replay::judge::untouched` is safe and ends.
-use Prim.Native.Nat.{◌*◌, ◌-◌}
 use native.Mathlib.Omega.{arith}
-use Rattle.machine.specs.Constants.{machine_max, row_words}
 use Rattle.replay.proofs.judge.untouched.Goals as goal
 
 pub loop-i-init : goal.loop-i-init

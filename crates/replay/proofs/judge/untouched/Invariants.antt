@@ -1,5 +1,4 @@
 use Prim.Native.Nat.{◌*◌, ◌-◌}
-use native.Mathlib.Omega.{arith}
 use Rattle.machine.specs.Constants.{machine_max, row_words}
 use Rattle.replay.proofs.judge.untouched.Given as goal
 
