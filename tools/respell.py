@@ -79,6 +79,9 @@ def table():
     names = declared()
     words = [set(re.findall(NAME, re.sub(r"--[^\n]*|\"[^\"]*\"", "", read(path)))) for path in texts()]
     turned = {word: snake(word) for each in words for word in each if CAMEL.fullmatch(word)}
+    # the names that clauses give to definitions
+    for path in sorted(glob.glob("crates/*/src/**/*.rt", recursive=True)):
+        turned.update({word: snake(word) for word in re.findall(r"\bas (\w+)", read(path)) if CAMEL.fullmatch(word)})
     defs = {snake(it) for it in names if "-" not in it} | LIBRARY
     for name in names:
         if "-" in name:

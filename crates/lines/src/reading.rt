@@ -2,7 +2,7 @@
 ghost use Rattle.std.specs.Prelude.{◌≡◌, ◌++◌, ◌*◌, ◌≤◌, ◌<◌, length, take, drop};
 ghost use Rattle.columns.specs.Columns.{right};
 ghost use Rattle.machine.specs.Same.{same};
-ghost use Rattle.lines.specs.Lines.{kind_columns, line_bytes, is_line, words_of, lines as linesIn, table_of};
+ghost use Rattle.lines.specs.Lines.{kind_columns, line_bytes, is_line, words_of, lines as lines_in, table_of};
 
 use super::KIND_COLUMNS;
 use cells::WORD_COLUMNS;
@@ -49,7 +49,7 @@ fn is_line(line: &[u8], kind: u64, words: usize) -> bool
 // How many lines of this kind stand at the front; a line has so many words and bytes.
 pub fn lines(text: &[u8], kind: u64, words: usize, size: usize) -> usize
     requires { (size ≡ line_bytes words) × (kind < 10) }
-    ensures is { result ≡ linesIn kind words text.now }
+    ensures is { result ≡ lines_in kind words text.now }
     ensures inside { size * result ≤ length text.now }
 {
     let mut at = 0;

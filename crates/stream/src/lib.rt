@@ -13,7 +13,7 @@ ghost use Rattle.stream.specs.Stream.{
   layout_of,
   loaded,
   machine_table,
-  narrow as narrowOf,
+  narrow as narrow_of,
   next_call,
   size_refusal,
   state_table,
@@ -118,7 +118,7 @@ fn calls_end(words: &[u64], first: usize) -> usize
 
 // Whether each word is below 2^32.
 fn narrow(words: &[u64]) -> bool
-    ensures { result ≡ narrowOf words.now }
+    ensures { result ≡ narrow_of words.now }
 {
     let mut i = 0;
     while i < words.len() {
