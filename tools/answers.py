@@ -185,12 +185,10 @@ def turn(crate, folder, rel, entry):
     text = open(path, encoding="utf-8").read()
     told, t = [], Turn(entry)
     head = re.match(r"(?:--[^\n]*\n)*", text).group(0)
-    uses, inv_uses, answers, invs = [], [], [], []
+    uses, answers, invs = [], [], []
     module = "Rattle." + crate + ".proofs." + rel.replace("/", ".")
-    spec = None
     kept_names = set()
     items = blocks(text[len(head):])
-    position = -1
     for comment, body in items:
         if body.startswith("use "):
             if re.search(r"\.(Statement\.\{statement\}|Tie as tie)$", body.strip()) and body.strip().startswith("use " + module + "."):
@@ -240,7 +238,6 @@ def turn(crate, folder, rel, entry):
             value = re.sub(r"(?<![\w.'-])" + r"[A-Za-z_][\w'₀-]*", var, value)
             invs.append((comment + "\n" if comment else "") + f"abbrev pub {new} : goal.{new}\n{new} l ={value}")
             continue
-        position += 1
         goal = t.goal(name, rest)
         m2 = re.match(re.escape(name) + r" (\S+)((?: \S+)*?)\s*=(.*)$", clauses.strip(), re.S)
         if not goal or not m2:
@@ -252,8 +249,6 @@ def turn(crate, folder, rel, entry):
             continue
         line = f"pub {goal} : goal.{goal}\n" + (unfolding + "\n" if unfolding else "") + f"{goal} {c} ={value}"
         answers.append((comment + "\n" if comment else "") + line)
-    used = "\n".join(answers)
-    renamed = []
     if answers:
         with open(os.path.join(folder, "Answers.antt"), "w", encoding="utf-8") as f:
             f.write(head + "\n".join(uses) + f"\nuse {module}.Goals as goal\n\n" + "\n\n".join(answers) + "\n")
