@@ -1,0 +1,2 @@
+-- Refusals and their numbers.
+pub mod Refusal

@@ -1,0 +1,34 @@
+-- The number of each refusal, and of an answer: 0 where the call was accepted.
+use Rattle.std.specs.Prelude.{ℕ, Result, Ok, Err}
+use Rattle.refusal.specs.declared.Refusal.{Refusal}
+use Rattle.refusal.specs.declared.Refusal.TheVariants as R
+
+abbrev pub number : Refusal → ℕ
+number R.PaddingFraction = 1
+number R.BlockingFraction = 2
+number R.NotWholeRows = 3
+number R.MachinePadding = 4
+number R.MachineBlocking = 5
+number R.StateCount = 6
+number R.StatesBeyondTable = 7
+number R.RowBeyondTable = 8
+number R.ProbabilityWord = 9
+number R.UnknownTarget = 10
+number R.RepeatedTarget = 11
+number R.Probability = 12
+number R.ProbabilitySum = 13
+number R.UnknownCode = 14
+number R.InvalidDistribution = 15
+number R.NoDraw = 16
+number R.UnfitDraw = 17
+number R.ForeignFramework = 18
+number R.UnknownEvents = 19
+number R.NoRoom = 20
+number R.BadInput = 21
+number R.BadLine = 22
+number R.NoSheetRoom = 23
+number R.DrawnOutside = 24
+
+abbrev pub refusal_of : {A : Type 0} → Result A Refusal → ℕ
+refusal_of (Ok a) = 0
+refusal_of (Err r) = number r
