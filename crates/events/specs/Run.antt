@@ -1,6 +1,7 @@
 -- The lent tables as a record, and a run's outcome as the code answers it.
 use Rattle.std.specs.Prelude.{ℕ, List}
-use Rattle.steps.specs.Events.{Tables, Run, Outcome, stop, go}
+pub use Rattle.machine.specs.Tables.{tables}
+use Rattle.steps.specs.Events.{Run, Outcome, stop, go}
 use Rattle.steps.specs.Framework.{shared_from, no_actions}
 use Rattle.steps.specs.declared.Framework.{Framework}
 use Rattle.steps.specs.declared.Shared.{Shared}
@@ -8,9 +9,6 @@ use Rattle.steps.specs.declared.TriggerAction.{TriggerAction}
 use Rattle.steps.specs.declared.Ran.{Ran}
 use Rattle.steps.specs.declared.Verdict.{Verdict}
 use Rattle.steps.specs.declared.Verdict.TheVariants.{Complete, Refused}
-
-abbrev pub tables : List ℕ → List ℕ → List ℕ → Tables
-tables machines states transitions = record { machines = machines; states = states; transitions = transitions }
 
 abbrev pub run : Framework → List TriggerAction → Shared → Run
 run fw actions s = record { framework = fw; actions = actions; shared = s }

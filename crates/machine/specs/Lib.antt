@@ -4,5 +4,6 @@ pub mod Event
 pub mod Source
 pub mod Words
 pub mod State
+pub mod Tables
 pub mod Part
 pub mod Same

@@ -5,3 +5,4 @@ pub mod constants; // constants.rs, and the layout of the lent tables
 pub mod event; // event.rs
 pub mod source; // the draws of a call
 pub mod state; // state.rs
+pub mod tables; // the lent tables

@@ -7,6 +7,7 @@ use Rattle.numbers.specs.Saturating.{saturating_add}
 use Rattle.machine.specs.Constants.{machine_max, machine_words, state_words, allowed_padding_packets, max_padding_frac, max_blocking_frac, first_state, num_states, state_end}
 use Rattle.machine.specs.Event.{event_of, normal_sent, padding_sent, blocking_begin, blocking_end, signal, timer_begin_kind, timer_end_kind}
 use Rattle.machine.specs.State.{rows_of}
+pub use Rattle.machine.specs.Tables.{Tables}
 use Rattle.steps.specs.Limits.{blocking_on}
 use Rattle.steps.specs.Transition.{Env, env, no_action, with_signal, transition, decrement_limit}
 use Rattle.steps.specs.declared.MachineRuntime.{MachineRuntime}
@@ -20,12 +21,6 @@ use Rattle.steps.specs.declared.Shared.{Shared}
 use Rattle.steps.specs.declared.TriggerAction.{TriggerAction}
 use Rattle.steps.specs.declared.Stepped.{Stepped}
 use Rattle.steps.specs.declared.Stepped.TheVariants.{Refused, Done}
-
--- The lent tables.
-pub record Tables : Type 0 where
-  pub machines : List ℕ
-  pub states : List ℕ
-  pub transitions : List ℕ
 
 -- A run of a call so far.
 pub record Run : Type 0 where
