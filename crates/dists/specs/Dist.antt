@@ -1,17 +1,15 @@
 -- dist.rs: a distribution of five words, its validity, and a sample of it with the draw that it takes from the value tape.
-use Rattle.std.specs.Prelude.{ℕ, ◌+◌, List, Bool, true, cond, not, ◌&&◌, get_or, eqb, Float}
+use Rattle.std.specs.Prelude.{ℕ, ◌+◌, List, Bool, true, cond, not, ◌&&◌, get_or, eqb, Float, Result, Ok, Err}
 use Rattle.std.specs.Float.{binary64}
 use Rattle.std.specs.Float.Ieee.{of_bits, add, sub, lt, eq}
 use Rattle.numbers.specs.Finite.{is_finite, zero_f}
-use Rattle.machine.specs.Source.{Drawn, no, got, Values}
+use Rattle.refusal.specs.declared.Refusal.{Refusal}
+use Rattle.machine.specs.Source.{Values, draw, drawn}
 use Rattle.machine.specs.declared.source.Place.{Place}
+use Rattle.machine.specs.declared.source.Draw.{Draw}
 use Rattle.dists.specs.declared.DistType.{DistType}
 use Rattle.dists.specs.declared.DistType.TheVariants.{Absent, Uniform, Outside}
 use Rattle.dists.specs.declared.Dist.{Dist}
-use Rattle.dists.specs.declared.ValueDrawn.{ValueDrawn}
-use Rattle.dists.specs.declared.ValueDrawn.TheVariants.{Refused, GotValue}
-use Rattle.dists.specs.declared.WholeDrawn.{WholeDrawn}
-use Rattle.dists.specs.declared.WholeDrawn.TheVariants.{Refused, GotWhole}
 
 -- ---- five words of a row: kind, then the bits of low, high, start and max
 abbrev pub f64_at : List ℕ → ℕ → Float
@@ -41,28 +39,24 @@ unfoldable pub validate : Dist → Bool
 validate d = valid_type d.dist
 
 -- ---- a value draw
-abbrev pub got_value : Float → Place → ValueDrawn
-got_value value at = GotValue (record { value = value; at = at })
-
-abbrev pub value_drawn : Drawn Place Float → ValueDrawn
-value_drawn (no n at) = Refused n
-value_drawn (got v at) = got_value v at
+abbrev pub got_value : Float → Place → Result (Draw Float) Refusal
+got_value value at = Ok (draw value at)
 
 -- A Uniform value; with low = high it takes no draw.
-unfoldable pub uniform_draw : Float → Float → Values Place → Place → ValueDrawn
-uniform_draw low high values at = cond (eq low high) (got_value low at) (value_drawn (values.uniform low high at))
+unfoldable pub uniform_draw : Float → Float → Values Place → Place → Result (Draw Float) Refusal
+uniform_draw low high values at = cond (eq low high) (got_value low at) (drawn (values.uniform low high at))
 
 -- A value drawn outside.
-unfoldable pub outside_draw : Values Place → Place → ValueDrawn
-outside_draw values at = value_drawn (values.outside at)
+unfoldable pub outside_draw : Values Place → Place → Result (Draw Float) Refusal
+outside_draw values at = drawn (values.outside at)
 
 -- ---- Dist::dist_sample; an absent distribution is never sampled
-abbrev pub sample_of_type : DistType → Values Place → Place → ValueDrawn
+abbrev pub sample_of_type : DistType → Values Place → Place → Result (Draw Float) Refusal
 sample_of_type Absent values at = got_value zero_f at
 sample_of_type (Uniform low high) values at = uniform_draw low high values at
 sample_of_type Outside values at = outside_draw values at
 
-unfoldable pub dist_sample : Dist → Values Place → Place → ValueDrawn
+unfoldable pub dist_sample : Dist → Values Place → Place → Result (Draw Float) Refusal
 dist_sample d values at = sample_of_type d.dist values at
 
 -- ---- Dist::sample
@@ -77,17 +71,17 @@ capped max x = cond (lt zero_f max && lt max x) max x
 unfoldable pub adjusted : Dist → Float → Float
 adjusted d sampled = capped d.max (or_zero (add binary64 sampled d.start))
 
-abbrev pub adjusted_draw : Dist → ValueDrawn → ValueDrawn
-adjusted_draw d (Refused n) = Refused n
-adjusted_draw d (GotValue v) = got_value (adjusted d v.value) v.at
+abbrev pub adjusted_draw : Dist → Result (Draw Float) Refusal → Result (Draw Float) Refusal
+adjusted_draw d (Err r) = Err r
+adjusted_draw d (Ok v) = got_value (adjusted d v.value) v.at
 
-unfoldable pub sample : Dist → Values Place → Place → ValueDrawn
+unfoldable pub sample : Dist → Values Place → Place → Result (Draw Float) Refusal
 sample d values at = adjusted_draw d (dist_sample d values at)
 
 -- ---- a sample as a whole number
-abbrev pub got_whole : ℕ → Place → WholeDrawn
-got_whole value at = GotWhole (record { value = value; at = at })
+abbrev pub got_whole : ℕ → Place → Result (Draw ℕ) Refusal
+got_whole value at = Ok (draw value at)
 
-abbrev pub whole_of : (Float → ℕ) → ValueDrawn → WholeDrawn
-whole_of f (Refused n) = Refused n
-whole_of f (GotValue v) = got_whole (f v.value) v.at
+abbrev pub whole_of : (Float → ℕ) → Result (Draw Float) Refusal → Result (Draw ℕ) Refusal
+whole_of f (Err r) = Err r
+whole_of f (Ok v) = got_whole (f v.value) v.at

@@ -11,7 +11,7 @@ use lib.ListN.{length}
 use lib.Ieee.{Float, binary32, of_bits, add, lt}
 use Rattle.machine.specs.Constants.{transition_words}
 use Rattle.machine.specs.State.{probability_at, target_at, walk, sample_state}
-use Rattle.machine.specs.declared.state.Next.TheVariants.{State, Nothing}
+use Rattle.std.specs.Prelude.{Some, None}
 
 module _ (ts : List ℕ) (i end : ℕ) (sum draw : Float) where
   pub walk_on : i < end → lt draw (add binary32 sum (probability_at ts i)) ≡ false →
@@ -21,11 +21,11 @@ module _ (ts : List ℕ) (i end : ℕ) (sum draw : Float) where
   walk_on h e = let one : end - i ≡ suc (end - (i + 1)) = omega arith in rw one (simp e)
 
   pub walk_stops : i < end → lt draw (add binary32 sum (probability_at ts i)) ≡ true →
-      walk ts i (end - i) sum draw ≡ State (target_at ts i)
+      walk ts i (end - i) sum draw ≡ Some (target_at ts i)
   unfolding walk
   walk_stops h e = let one : end - i ≡ suc (end - (i + 1)) = omega arith in rw one (simp e)
 
-  pub walk_ends : end ≤ i → walk ts i (end - i) sum draw ≡ Nothing
+  pub walk_ends : end ≤ i → walk ts i (end - i) sum draw ≡ None
   unfolding walk
   walk_ends h = let none : end - i ≡ zero = omega arith in rw none
 
@@ -36,6 +36,6 @@ module _ (ts : List ℕ) (first count : ℕ) (draw : Float) where
   row_within h = rw (le-leb _ _ h)
 
   pub row_beyond : length ts < (first + count) * transition_words →
-      sample_state ts first count draw ≡ Nothing
+      sample_state ts first count draw ≡ None
   unfolding sample_state
   row_beyond h = rw (lt-leb _ _ h)

@@ -1,16 +1,18 @@
 -- What the steps draw from. A source has a state, and three things can be asked of it: a chance, a Uniform value, a value drawn
 -- outside; each answer or refusal comes with the state after it. An attempt at a transition is told to it, for those that count.
 -- The steps run at the state `Place`, which the code has; laws about them use others.
-use Rattle.std.specs.Prelude.{ℕ, ◌+◌, ◌<◌, List, Bool, true, false, cond, ◌&&◌, length, get_or, ltb, Float}
+use Rattle.std.specs.Prelude.{ℕ, ◌+◌, ◌<◌, List, Bool, true, false, cond, ◌&&◌, length, get_or, ltb, Float, Result, Ok, Err}
 use Rattle.std.proofs.Common.{lit<}
 use Rattle.std.specs.Float.{nan, binary32}
 use Rattle.std.specs.Float.Ieee.{of_bits, lt, le}
+use Rattle.refusal.specs.Refusal.{number}
+use Rattle.refusal.specs.declared.Refusal.{Refusal}
+use Rattle.refusal.specs.declared.Refusal.TheVariants.{NoDraw, UnfitDraw}
 use Rattle.machine.specs.declared.source.Place.{Place}
-use Rattle.machine.specs.declared.source.ChanceDrawn.{ChanceDrawn}
-use Rattle.machine.specs.declared.source.ChanceDrawn.TheVariants.{Refused, GotChance}
+use Rattle.machine.specs.declared.source.Draw.{Draw}
 
 pub data Drawn (S A : Type 0) : Type 0 where
-  no : ℕ → S → Drawn S A
+  no : Refusal → S → Drawn S A
   got : A → S → Drawn S A
 
 pub record Values (S : Type 0) : Type 0 where
@@ -23,17 +25,20 @@ pub record Source (S : Type 0) : Type 0 where
   pub chance : S → Drawn S Float
   pub values : Values S
 
--- a chance draw, as the code answers it
-abbrev pub chance_drawn : Drawn Place Float → ChanceDrawn
-chance_drawn (no n at) = Refused n
-chance_drawn (got c at) = GotChance c at
+-- ---- as the code answers it: what was drawn and where the source goes on, or the refusal
+abbrev pub draw : {A : Type 0} → A → Place → Draw A
+draw value at = record { value = value; at = at }
 
-unfoldable pub chance_draw : (Place → Drawn Place Float) → Place → ChanceDrawn
-chance_draw chance at = chance_drawn (chance at)
+abbrev pub drawn : {A : Type 0} → Drawn Place A → Result (Draw A) Refusal
+drawn (no r at) = Err r
+drawn (got v at) = Ok (draw v at)
+
+unfoldable pub chance_draw : (Place → Drawn Place Float) → Place → Result (Draw Float) Refusal
+chance_draw chance at = drawn (chance at)
 
 -- A source tells why it refuses: by a number that is not 0, which means accepted.
 abbrev pub Tells : {S A : Type 0} → Drawn S A → Type 0
-Tells (no n s) = 0 < n
+Tells (no r s) = 0 < number r
 Tells (got a s) = Unit
 
 pub record Telling {S : Type 0} (D : Source S) : Type 0 where
@@ -58,8 +63,8 @@ place c v = record { chance_at = c; value_at = v }
 abbrev pub on_tape : (Float → Bool) → List Float → ℕ → Place → Place → Drawn Place Float
 on_tape fit tape at after here =
     cond (ltb at (length tape))
-    (cond (fit (get_or tape at nan)) (got (get_or tape at nan) after) (no 17 here))
-    (no 16 here)
+    (cond (fit (get_or tape at nan)) (got (get_or tape at nan) after) (no UnfitDraw here))
+    (no NoDraw here)
 
 abbrev pub next_chance : List Float → Place → Drawn Place Float
 next_chance chances at =
@@ -84,7 +89,7 @@ tapes chances values = record {
 on_tape_tells : (fit : Float → Bool) (tape : List Float) (at : ℕ) (after here : Place) → Tells (on_tape fit tape at after here)
 on_tape_tells fit tape at after here = go (ltb at (length tape)) (fit (get_or tape at nan))
   where
-    go : (a b : Bool) → Tells (cond a (cond b (got (get_or tape at nan) after) (no 17 here)) (no 16 here))
+    go : (a b : Bool) → Tells (cond a (cond b (got (get_or tape at nan) after) (no UnfitDraw here)) (no NoDraw here))
     go true true = tt
     go true false = lit< tt
     go false b = lit< tt

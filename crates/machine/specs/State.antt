@@ -1,10 +1,8 @@
 -- state.rs: rows of the lent tables, and the choice of a next state.
-use Rattle.std.specs.Prelude.{ℕ, zero, suc, ◌+◌, ◌*◌, ◌%◌, List, cond, length, get_or, take, drop, leb, Float}
+use Rattle.std.specs.Prelude.{ℕ, zero, suc, ◌+◌, ◌*◌, ◌%◌, List, cond, length, get_or, take, drop, leb, Float, Option, Some, None}
 use Rattle.std.specs.Float.{binary32}
 use Rattle.std.specs.Float.Ieee.{of_bits, add, lt}
 use Rattle.machine.specs.Constants.{state_words, transition_words, events}
-use Rattle.machine.specs.declared.state.Next.{Next}
-use Rattle.machine.specs.declared.state.Next.TheVariants.{State, Nothing}
 
 -- ---- rows
 -- n rows of w words from row `first` on; what lies beyond the table is missing
@@ -31,13 +29,13 @@ abbrev pub probability_at : List ℕ → ℕ → Float
 probability_at ts i = of_bits binary32 (get_or ts (i * transition_words + 1) 0 % 4294967296)
 
 -- The first target, of n transitions from row i on, at which the running f32 sum exceeds the draw.
-unfoldable pub walk : List ℕ → ℕ → ℕ → Float → Float → Next
-walk ts i zero sum draw = Nothing
+unfoldable pub walk : List ℕ → ℕ → ℕ → Float → Float → Option ℕ
+walk ts i zero sum draw = None
 walk ts i (suc n) sum draw =
     let next = add binary32 sum (probability_at ts i) in
-    cond (lt draw next) (State (target_at ts i)) (walk ts (i + 1) n next draw)
+    cond (lt draw next) (Some (target_at ts i)) (walk ts (i + 1) n next draw)
 
 -- A row beyond the transition table chooses nothing; the table checks leave none.
-unfoldable pub sample_state : List ℕ → ℕ → ℕ → Float → Next
+unfoldable pub sample_state : List ℕ → ℕ → ℕ → Float → Option ℕ
 sample_state ts first count draw =
-    cond (leb ((first + count) * transition_words) (length ts)) (walk ts first count (of_bits binary32 0) draw) Nothing
+    cond (leb ((first + count) * transition_words) (length ts)) (walk ts first count (of_bits binary32 0) draw) None

@@ -6,13 +6,6 @@ ghost use Rattle.machine.specs.State.{sample_state};
 
 use super::constants::{EVENTS, STATE_WORDS, TRANSITION_WORDS};
 
-// The next state of a transition, a pseudo-state among them, or none.
-#[derive(Clone, Copy)]
-pub enum Next {
-    State(u64),
-    Nothing,
-}
-
 // ---- rows
 
 // Word k of a row; 0 past its end.
@@ -73,32 +66,27 @@ pub fn count_of(row: &[u64], event: u64) -> u64
 
 // ---- State::sample_state
 
-// The first target of the row at which the running sum exceeds the draw. Neither the first row nor
-// the count is trusted to lie within the table.
-pub fn sample_state(transitions: &[u64], first: u64, count: u64, draw: f32) -> Next
+// The first target of the row at which the running sum exceeds the draw, a pseudo-state among them, or none. Neither the first row
+// nor the count is trusted to lie within the table.
+pub fn sample_state(transitions: &[u64], first: u64, count: u64, draw: f32) -> Option<u64>
     ensures { result ≡ sample_state transitions.now first count draw }
 {
     let rows = transitions.len() / TRANSITION_WORDS;
     let start = first as usize;
     if rows < start {
-        return Next::Nothing;
+        return None;
     }
     let n = count as usize;
     if rows - start < n {
-        return Next::Nothing;
+        return None;
     }
-    let end = start + n;
-    let mut i = start;
     let mut sum: f32 = 0.0;
-    loop {
-        if end <= i {
-            break Next::Nothing;
-        }
+    for i in start..start + n {
         let at = i * TRANSITION_WORDS;
         sum = sum + numbers::f32_of_word(transitions[at + 1]);
         if draw < sum {
-            break Next::State(transitions[at]);
+            return Some(transitions[at]);
         }
-        i = i + 1;
     }
+    None
 }

@@ -8,8 +8,9 @@ use lib.Ieee.{Float, nan, inf, fin}
 use Rattle.numbers.specs.Round.{round_away}
 use Rattle.machine.specs.Constants.{state_limit_max}
 use Rattle.dists.specs.Dist.{got_whole, whole_of}
-use Rattle.dists.specs.declared.ValueDrawn.{ValueDrawn}
-use Rattle.dists.specs.declared.ValueDrawn.TheVariants.{Refused, GotValue}
+use Rattle.std.specs.Prelude.{Result, Ok, Err}
+use Rattle.refusal.specs.declared.Refusal.{Refusal}
+use Rattle.machine.specs.declared.source.Draw.{Draw}
 
 at_most : (x : Float) → round_away x ≤ state_limit_max
 unfolding round_away
@@ -23,7 +24,7 @@ uncapped : (x : Float) → min (round_away x) state_limit_max ≡ round_away x
 uncapped x = omega (arith, at_most x)
 
 -- with that cap the rounded number is the number
-pub rounded_fits : (d : ValueDrawn) →
+pub rounded_fits : (d : Result (Draw Float) Refusal) →
     whole_of (λ (x : Float). min (round_away x) state_limit_max) d ≡ whole_of round_away d
-rounded_fits (Refused n) = refl
-rounded_fits (GotValue v) = ap (λ (w : ℕ). got_whole w v.at) (uncapped v.value)
+rounded_fits (Err r) = refl
+rounded_fits (Ok v) = ap (λ (w : ℕ). got_whole w v.at) (uncapped v.value)

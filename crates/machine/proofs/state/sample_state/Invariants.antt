@@ -1,13 +1,10 @@
-use Prim.Native.Nat.{◌-◌, ◌≤◌}
-use mathlib.Core.Path.{◌≡◌}
-use lib.Ieee.{binary32, of_bits}
+use Rattle.std.proofs.Common.{◌≡◌, ◌+◌, ◌-◌}
+use Rattle.std.specs.Float.{binary32}
+use Rattle.std.specs.Float.Ieee.{of_bits}
 use Rattle.machine.specs.State.{walk}
 use Rattle.machine.proofs.state.sample_state.Given as goal
 
+-- the whole walk is what is left of it, from row i on with the sum so far
 abbrev pub invariant-loop-i : goal.invariant-loop-i
 invariant-loop-i l =
-    (l.i ≤ l.end) ×
-    (walk l.transitions l.first l.count (of_bits binary32 0) l.draw ≡ walk l.transitions l.i (l.end - l.i) l.sum l.draw)
-
-abbrev pub decreases-loop-i : goal.decreases-loop-i
-decreases-loop-i l = l.end - l.i
+    walk l.transitions l.first l.count (of_bits binary32 0) l.draw ≡ walk l.transitions l.i (l.first + l.count - l.i) l.sum l.draw

@@ -3,7 +3,7 @@ use native.Mathlib.Omega.{arith}
 use lib.Dec.{le→leb}
 use lib.Ieee.{in_float}
 use Rattle.machine.specs.Words.Laws.{quotient_is_unit}
-use Rattle.dists.proofs.unit_of.Goals as goal
+use Rattle.machine.proofs.source.unit_of.Goals as goal
 
 pub int_to_float-result : goal.int_to_float-result
 unfolding in_float

@@ -1,2 +1,0 @@
--- What functions' proofs cite: words from a position on.
-mod Word

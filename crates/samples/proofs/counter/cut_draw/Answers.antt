@@ -1,8 +1,0 @@
--- `cut_draw` meets its contract, by what was drawn. Assumes nothing.
-use Rattle.samples.proofs.counter.cut_draw.Goals as goal
-
-pub returns-in-Refused : goal.returns-in-Refused
-returns-in-Refused c = rw c.in-Refused.is
-
-pub returns-in-GotValue : goal.returns-in-GotValue
-returns-in-GotValue c = rw (c.in-GotValue.is, c.cut-value.ensures)
