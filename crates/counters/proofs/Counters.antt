@@ -1,4 +1,5 @@
 -- A row without counters changes nothing. Assumes nothing.
+use Rattle.std.specs.Prelude.{Ok}
 use mathlib.Core.List.{List}
 use mathlib.Core.Bool.{Bool, true, false, ◌&&◌, ◌||◌}
 use mathlib.Core.Path.{◌≡◌, refl}
@@ -11,7 +12,6 @@ use Rattle.machine.specs.declared.source.Place.{Place}
 use Rattle.steps.specs.Transition.{update_one, tally_a, tally_b, untallied, update_counters}
 use Rattle.steps.specs.declared.Counters.{Counters}
 use Rattle.steps.specs.declared.Zeroed.{Zeroed}
-use Rattle.steps.specs.declared.Tallied.TheVariants.{At}
 
 and_left : (a b : Bool) → (a && b) ≡ true → a ≡ true
 and_left true b e = refl
@@ -27,7 +27,7 @@ or_false false = refl
 
 pub uncounted : (row : List ℕ) (values : Values Place) (old : Counters) (zeroed : Zeroed) (at : Place) →
     (eqb (get_or row counter_a 0) 0 && eqb (get_or row counter_b 0) 0) ≡ true →
-    update_counters row values old zeroed at ≡ At (untallied old zeroed at)
+    update_counters row values old zeroed at ≡ Ok (untallied old zeroed at)
 unfolding update_counters tally_a tally_b update_one
 uncounted row values old zeroed at e =
     let none-a = and_left (eqb (get_or row counter_a 0) 0) (eqb (get_or row counter_b 0) 0) e in

@@ -4,7 +4,7 @@ use Rattle.std.specs.Float.{binary64}
 use Rattle.std.specs.Float.Ieee.{of_bits, add, sub, lt, eq}
 use Rattle.numbers.specs.Finite.{is_finite, zero_f}
 use Rattle.refusal.specs.declared.Refusal.{Refusal}
-use Rattle.machine.specs.Source.{Values, draw, drawn}
+use Rattle.machine.specs.Source.{Values, draw, draw_of}
 use Rattle.machine.specs.declared.source.Place.{Place}
 use Rattle.machine.specs.declared.source.Draw.{Draw}
 use Rattle.dists.specs.declared.DistType.{DistType}
@@ -44,11 +44,11 @@ got_value value at = Ok (draw value at)
 
 -- A Uniform value; with low = high it takes no draw.
 unfoldable pub uniform_draw : Float → Float → Values Place → Place → Result (Draw Float) Refusal
-uniform_draw low high values at = cond (eq low high) (got_value low at) (drawn (values.uniform low high at))
+uniform_draw low high values at = cond (eq low high) (got_value low at) (draw_of (values.uniform low high at))
 
 -- A value drawn outside.
 unfoldable pub outside_draw : Values Place → Place → Result (Draw Float) Refusal
-outside_draw values at = drawn (values.outside at)
+outside_draw values at = draw_of (values.outside at)
 
 -- ---- Dist::dist_sample; an absent distribution is never sampled
 abbrev pub sample_of_type : DistType → Values Place → Place → Result (Draw Float) Refusal

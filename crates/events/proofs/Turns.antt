@@ -1,4 +1,7 @@
 -- The run over events, a turn at a time: of the event taken some machines are left, then the events that follow.
+use Rattle.std.specs.Prelude.{Result, Ok, Err, Option, Some, None}
+use Rattle.refusal.specs.declared.Refusal.{Refusal}
+use Rattle.machine.specs.declared.source.Draw.{Draw}
 use Prim.Native.Nat.{ℕ, zero, suc, ◌+◌, ◌-◌, ◌≤◌, ◌<◌}
 use mathlib.Core.Path.{◌≡◌, refl, ◌∙◌}
 use mathlib.Core.List.{List}
@@ -11,8 +14,6 @@ use Rattle.machine.specs.Event.{event_of}
 use Rattle.machine.specs.Constants.{counter_num}
 use Rattle.machine.specs.Source.{Source}
 use Rattle.machine.specs.declared.source.Place.{Place}
-use Rattle.machine.specs.declared.state.Next.{Next}
-use Rattle.machine.specs.declared.state.Next.TheVariants.{State, Nothing}
 use Rattle.steps.specs.Transition.{Env, no_action, done, with_place}
 use Rattle.steps.specs.Events.{Tables, Run, Outcome, stop, go, and_then, each, num_machines, runtime_at, with_runtime, states_of}
 use Rattle.steps.specs.Events.{env_of, counted_by, with_totals, blocked_now, totals_after, limit_falls, after_transition, turn, machine_turn, first_for, turns_for, process_event, kind_at, machine_at, event_turn}
@@ -20,13 +21,9 @@ use Rattle.steps.specs.declared.Framework.{Framework}
 use Rattle.steps.specs.declared.MachineRuntime.{MachineRuntime}
 use Rattle.steps.specs.declared.Shared.{Shared}
 use Rattle.steps.specs.declared.Step.{Step}
-use Rattle.steps.specs.declared.Stepped.{Stepped}
-use Rattle.steps.specs.declared.Stepped.TheVariants.{Refused, Done}
 use Rattle.steps.specs.declared.TriggerAction.{TriggerAction}
 use Rattle.steps.specs.declared.Totals.{Totals}
 use Rattle.moves.specs.Choice.{choose}
-use Rattle.moves.specs.declared.choice.Choice.{Choice}
-use Rattle.moves.specs.declared.choice.Choice.TheVariants.{Refused, Chosen}
 use Rattle.transition.specs.Transition.{going_at, turn_missing, turn_chosen}
 use Rattle.account.specs.Account.{only_counts}
 use Rattle.events.specs.Run.{run}
@@ -56,26 +53,26 @@ pub all_ahead :
 unfolding each
 all_ahead T D es n fw actions s = record { is = rw sub-zero }
 
-abbrev turned : Tables → Source Place → ℕ → ℕ → ℕ → ℕ → Framework → List TriggerAction → Shared → Stepped
+abbrev turned : Tables → Source Place → ℕ → ℕ → ℕ → ℕ → Framework → List TriggerAction → Shared → Result Step Refusal
 turned T D kind machine blocked m fw actions s =
     turn (env_of T D fw m) kind (limit_falls kind machine m) blocked (runtime_at fw m) s (get_or actions m no_action)
 
 -- ---- a machine's turn, by its choice
-abbrev choice_at : Tables → Source Place → ℕ → ℕ → Framework → Shared → Choice
+abbrev choice_at : Tables → Source Place → ℕ → ℕ → Framework → Shared → Result (Draw (Option ℕ)) Refusal
 choice_at T D kind m fw s =
     choose (states_of T m) T.transitions D.chance (runtime_at fw m).current_state (event_of kind) s.place
 
-abbrev going_on : Tables → Source Place → ℕ → ℕ → ℕ → Framework → List TriggerAction → Shared → Next → Place → Stepped
+abbrev going_on : Tables → Source Place → ℕ → ℕ → ℕ → Framework → List TriggerAction → Shared → Option ℕ → Place → Result Step Refusal
 going_on T D kind blocked m fw actions s next at =
     going_at counter_num (env_of T D fw m) next (counted_by kind blocked (runtime_at fw m)) (with_place s at) (get_or actions m no_action)
 
 -- where no state was chosen and no limit falls
-only : (E : Env) (falls : Bool) (next : Next) (r : MachineRuntime) (s : Shared) (p : TriggerAction) →
+only : (E : Env) (falls : Bool) (next : Option ℕ) (r : MachineRuntime) (s : Shared) (p : TriggerAction) →
     only_counts falls next ≡ true → after_transition E falls (going_at counter_num E next r s p) ≡ done r s p false
 unfolding only_counts going_at
 only E true next r s p e = absurd (false≢true e)
-only E false (State next) r s p e = absurd (false≢true e)
-only E false Nothing r s p e = refl
+only E false (Some next) r s p e = absurd (false≢true e)
+only E false None r s p e = refl
 
 abbrev up_to : ℕ → ℕ → Framework → ℕ
 up_to kind machine fw = first_for kind machine + turns_for kind machine (num_machines fw)
@@ -83,7 +80,7 @@ up_to kind machine fw = first_for kind machine + turns_for kind machine (num_mac
 module _ {o : Outcome} {T : Tables} {D : Source Place} {es : List ℕ} {n kind machine blocked m end i : ℕ}
     {fw : Framework} {actions : List TriggerAction} {s : Shared}
     (a : Ahead o T D es n kind machine blocked m end i fw actions s) where
-  ahead-turn : m < end → {d : Step} → turned T D kind machine blocked m fw actions s ≡ Done d →
+  ahead-turn : m < end → {d : Step} → turned T D kind machine blocked m fw actions s ≡ Ok d →
       Ahead o T D es n kind machine blocked (m + 1) end i
       (with_runtime fw (set fw.runtime m d.runtime)) (set actions m d.action) d.shared
   unfolding machine_turn
@@ -91,16 +88,16 @@ module _ {o : Outcome} {T : Tables} {D : Source Place} {es : List ℕ} {n kind m
     is = a.is ∙ rw (each_on (machine_turn T D kind machine blocked) end m (run fw actions s) h, e);
   }
 
-  ahead-stops : m < end → {why : ℕ} → turned T D kind machine blocked m fw actions s ≡ Refused why → o ≡ stop why
+  ahead-stops : m < end → {why : ℕ} → turned T D kind machine blocked m fw actions s ≡ Err why → o ≡ stop why
   unfolding machine_turn
   ahead-stops h e = a.is ∙ rw (each_on (machine_turn T D kind machine blocked) end m (run fw actions s) h, e)
 
-  pub ahead_missing : ((e k : ℕ) (at : Place) → D.attempt e k at ≡ at) → m < end → {why : ℕ} → choice_at T D kind m fw s ≡ Refused why → o ≡ stop why
+  pub ahead_missing : ((e k : ℕ) (at : Place) → D.attempt e k at ≡ at) → m < end → {why : ℕ} → choice_at T D kind m fw s ≡ Err why → o ≡ stop why
   ahead_missing quiet h e =
       ahead-stops h
       (turn_missing (env_of T D fw m) quiet kind blocked (limit_falls kind machine m) (runtime_at fw m) s (get_or actions m no_action) e)
 
-  module _ (quiet : (e k : ℕ) (at : Place) → D.attempt e k at ≡ at) (h : m < end) {next : Next} {at : Place} (chosen : choice_at T D kind m fw s ≡ Chosen next at) where
+  module _ (quiet : (e k : ℕ) (at : Place) → D.attempt e k at ≡ at) (h : m < end) {next : Option ℕ} {at : Place} (chosen : choice_at T D kind m fw s ≡ Chosen next at) where
     -- the turn, by what follows the choice
     on :
         turned T D kind machine blocked m fw actions s
@@ -110,12 +107,12 @@ module _ {o : Outcome} {T : Tables} {D : Source Place} {es : List ℕ} {n kind m
 
     -- and the fall of its limit
     pub ahead_refused : {why : ℕ} →
-        after_transition (env_of T D fw m) (limit_falls kind machine m) (going_on T D kind blocked m fw actions s next at) ≡ Refused why →
+        after_transition (env_of T D fw m) (limit_falls kind machine m) (going_on T D kind blocked m fw actions s next at) ≡ Err why →
         o ≡ stop why
     ahead_refused g = ahead-stops h (on ∙ g)
 
     pub ahead_done : {d : Step} →
-        after_transition (env_of T D fw m) (limit_falls kind machine m) (going_on T D kind blocked m fw actions s next at) ≡ Done d →
+        after_transition (env_of T D fw m) (limit_falls kind machine m) (going_on T D kind blocked m fw actions s next at) ≡ Ok d →
         Ahead o T D es n kind machine blocked (m + 1) end i
         (with_runtime fw (set fw.runtime m d.runtime)) (set actions m d.action) d.shared
     ahead_done g = ahead-turn h (on ∙ g)

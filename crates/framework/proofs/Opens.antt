@@ -1,4 +1,5 @@
 -- The opening, a machine at a time.
+use Rattle.std.specs.Prelude.{Err}
 use Prim.Native.Nat.{ℕ, ◌+◌, ◌-◌, ◌≤◌, ◌<◌}
 use mathlib.Core.Path.{◌≡◌, ◌∙◌}
 use lib.ListN.{set}
@@ -7,7 +8,6 @@ use Rattle.machine.specs.declared.source.Place.{Place}
 use Rattle.steps.specs.Transition.{with_place}
 use Rattle.steps.specs.Events.{Tables, Run, Outcome, stop, go, each, with_runtime}
 use Rattle.steps.specs.Framework.{shared_from, no_actions, open_machine, open_turn}
-use Rattle.steps.specs.declared.Entered.TheVariants.{Refused, In}
 use Rattle.steps.specs.declared.Framework.{Framework}
 use Rattle.steps.specs.declared.MachineRuntime.{MachineRuntime}
 use Rattle.events.specs.Run.{run}
@@ -32,5 +32,5 @@ module _ {o : Outcome} {T : Tables} {D : Source Place} {n m : ℕ} {fw : Framewo
         Opens o T D n (m + 1) (with_runtime fw (set fw.runtime m r)) taken
     opens_on e = record { is = a.is ∙ each_on (open_turn T D) n m (opens fw at) h ∙ rw e }
 
-    pub opens_stop : {why : ℕ} → open_machine T D.values m fw.current_time at ≡ Refused why → o ≡ stop why
+    pub opens_stop : {why : ℕ} → open_machine T D.values m fw.current_time at ≡ Err why → o ≡ stop why
     opens_stop e = a.is ∙ each_on (open_turn T D) n m (opens fw at) h ∙ rw e

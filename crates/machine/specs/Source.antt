@@ -29,12 +29,12 @@ pub record Source (S : Type 0) : Type 0 where
 abbrev pub draw : {A : Type 0} → A → Place → Draw A
 draw value at = record { value = value; at = at }
 
-abbrev pub drawn : {A : Type 0} → Drawn Place A → Result (Draw A) Refusal
-drawn (no r at) = Err r
-drawn (got v at) = Ok (draw v at)
+abbrev pub draw_of : {A : Type 0} → Drawn Place A → Result (Draw A) Refusal
+draw_of (no r at) = Err r
+draw_of (got v at) = Ok (draw v at)
 
 unfoldable pub chance_draw : (Place → Drawn Place Float) → Place → Result (Draw Float) Refusal
-chance_draw chance at = drawn (chance at)
+chance_draw chance at = draw_of (chance at)
 
 -- A source tells why it refuses: by a number that is not 0, which means accepted.
 abbrev pub Tells : {S A : Type 0} → Drawn S A → Type 0

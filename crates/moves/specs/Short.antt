@@ -1,23 +1,19 @@
 -- A machine's turn after its choice, on the short way: to a state of the machine, where no counter reports zero, no draw is refused
 -- and no limit falls.
+use Rattle.std.specs.Prelude.{Result, Ok, Err, Option, Some, None}
+use Rattle.refusal.specs.declared.Refusal.{Refusal}
+use Rattle.machine.specs.declared.source.Draw.{Draw}
+use Rattle.steps.specs.declared.TriggerAction.{TriggerAction}
 use Rattle.std.specs.Prelude.{ℕ, List, Bool, cond, ◌&&◌, ◌||◌, eqb}
 use Rattle.machine.specs.Constants.{state_end, state_signal}
 use Rattle.machine.specs.Source.{Values}
 use Rattle.machine.specs.State.{state_row}
 use Rattle.machine.specs.declared.source.Place.{Place}
-use Rattle.machine.specs.declared.state.Next.{Next}
-use Rattle.machine.specs.declared.state.Next.TheVariants.{State, Nothing}
 use Rattle.steps.specs.Limits.{below_action_limits}
 use Rattle.steps.specs.Transition.{enter, update_counters, schedule_action}
 use Rattle.steps.specs.declared.Context.{Context}
-use Rattle.steps.specs.declared.Entered.{Entered}
-use Rattle.steps.specs.declared.Entered.TheVariants.{Refused, In}
 use Rattle.steps.specs.declared.MachineRuntime.{MachineRuntime}
-use Rattle.steps.specs.declared.Scheduled.{Scheduled}
-use Rattle.steps.specs.declared.Scheduled.TheVariants.{Refused, Set}
 use Rattle.steps.specs.declared.Shared.{Shared}
-use Rattle.steps.specs.declared.Tallied.{Tallied}
-use Rattle.steps.specs.declared.Tallied.TheVariants.{Refused, At}
 use Rattle.steps.specs.declared.Tally.{Tally}
 use Rattle.steps.specs.declared.Zeroed.{Zeroed}
 use Rattle.moves.specs.declared.settle.Moved.{Moved}
@@ -49,28 +45,28 @@ move_of q t at = record {
 }
 
 -- ---- the way: a refused draw and a report are left to the long one
-abbrev pub scheduled_in : MachineRuntime → Tally → Scheduled → Short
-scheduled_in q t (Refused n) = Elsewhere
+abbrev pub scheduled_in : MachineRuntime → Tally → Result (Draw TriggerAction) Refusal → Short
+scheduled_in q t (Err n) = Elsewhere
 scheduled_in q t (Set p at) = Acted p (move_of q t at)
 
 unfoldable pub settle_in : List ℕ → Values Place → Context → MachineRuntime → Tally → Short
 settle_in row values c q t =
     cond (below_action_limits c q row) (scheduled_in q t (schedule_action row values t.place)) (Kept (move_of q t t.place))
 
-abbrev pub settle_with : List ℕ → Values Place → Context → MachineRuntime → Tallied → Short
-settle_with row values c q (Refused n) = Elsewhere
-settle_with row values c q (At t) = cond t.reports Elsewhere (settle_in row values c q t)
+abbrev pub settle_with : List ℕ → Values Place → Context → MachineRuntime → Result Tally Refusal → Short
+settle_with row values c q (Err n) = Elsewhere
+settle_with row values c q (Ok t) = cond t.reports Elsewhere (settle_in row values c q t)
 
-abbrev pub settle_from : List ℕ → Values Place → Context → Zeroed → Entered → Short
-settle_from row values c zeroed (Refused n) = Elsewhere
+abbrev pub settle_from : List ℕ → Values Place → Context → Zeroed → Result (Draw MachineRuntime) Refusal → Short
+settle_from row values c zeroed (Err n) = Elsewhere
 settle_from row values c zeroed (In q at) = settle_with row values c q (update_counters row values q.counters zeroed at)
 
 unfoldable pub settle : List ℕ → Values Place → Context → ℕ → MachineRuntime → Shared → Short
 settle row values c next r s = settle_from row values c s.zeroed (enter row values r next s.place)
 
 -- a limit does not fall where the state changes
-unfoldable pub short : List ℕ → Values Place → Context → Bool → Next → MachineRuntime → Shared → Short
-short rows values c falls Nothing r s = Elsewhere
-short rows values c falls (State next) r s =
+unfoldable pub short : List ℕ → Values Place → Context → Bool → Option ℕ → MachineRuntime → Shared → Short
+short rows values c falls None r s = Elsewhere
+short rows values c falls (Some next) r s =
     cond (eqb next state_end || eqb next state_signal || (falls && eqb r.current_state next)) Elsewhere
     (settle (state_row rows next) values c next r s)

@@ -1,4 +1,6 @@
 -- A round of signals, a machine at a time, and the machine left out at last.
+use Rattle.std.specs.Prelude.{Result, Ok, Err}
+use Rattle.refusal.specs.declared.Refusal.{Refusal}
 use Prim.Native.Nat.{ℕ, ◌+◌, ◌-◌, ◌≤◌, ◌<◌}
 use mathlib.Core.Path.{◌≡◌, refl, sym, ◌∙◌}
 use mathlib.Core.List.{List}
@@ -18,8 +20,6 @@ use Rattle.steps.specs.Events.{env_of, signal_machine, signal_turn, last_signal,
 use Rattle.steps.specs.declared.Framework.{Framework}
 use Rattle.steps.specs.declared.Shared.{Shared}
 use Rattle.steps.specs.declared.Step.{Step}
-use Rattle.steps.specs.declared.Stepped.{Stepped}
-use Rattle.steps.specs.declared.Stepped.TheVariants.{Refused, Done}
 use Rattle.steps.specs.declared.TriggerAction.{TriggerAction}
 use Rattle.events.specs.Run.{run}
 use Rattle.events.proofs.All.{bool_cases}
@@ -69,7 +69,7 @@ heard_all T D fw actions s h = record {
       (λ x. rw (ne_eqb _ _ h)));
 }
 
-abbrev signalled : Tables → Source Place → ℕ → Framework → List TriggerAction → Shared → Stepped
+abbrev signalled : Tables → Source Place → ℕ → Framework → List TriggerAction → Shared → Result Step Refusal
 signalled T D m fw actions s = transition (env_of T D fw m) signal (runtime_at fw m) s (get_or actions m no_action)
 
 module _ {o : Outcome} {T : Tables} {D : Source Place} {taken m end : ℕ}
@@ -85,13 +85,13 @@ module _ {o : Outcome} {T : Tables} {D : Source Place} {taken m end : ℕ}
       hears : eqb taken (2 + m) ≡ false
       hears = ne_eqb taken (2 + m) (λ q. in-turn (omega arith))
 
-      pub heard_turn : {d : Step} → signalled T D m fw actions s ≡ Done d →
+      pub heard_turn : {d : Step} → signalled T D m fw actions s ≡ Ok d →
           Heard o T D taken (m + 1) end
           (with_runtime fw (set fw.runtime m d.runtime)) (set actions m d.action) d.shared
       unfolding signal_machine
       heard_turn e = record { is = a.is ∙ rw (each_on (signal_turn T D taken) end m (run fw actions s) h, hears, e) }
 
-      pub heard_stops : {why : ℕ} → signalled T D m fw actions s ≡ Refused why → o ≡ stop why
+      pub heard_stops : {why : ℕ} → signalled T D m fw actions s ≡ Err why → o ≡ stop why
       unfolding signal_machine
       heard_stops e = a.is ∙ rw (each_on (signal_turn T D taken) end m (run fw actions s) h, hears, e)
 

@@ -1,5 +1,9 @@
 -- A framework that fits its tables (18): what that says, part by part; and that an accepted opening and an accepted batch leave one that
 -- does, so that a batch which goes on with it is never refused as 18. Assumes nothing.
+use Rattle.std.specs.Prelude.{Ok}
+use Rattle.std.specs.Prelude.{Result, Err}
+use Rattle.refusal.specs.declared.Refusal.{Refusal}
+use Rattle.steps.specs.declared.Step.{Step}
 use Rattle.std.specs.Prelude.{ℕ, zero, suc, ◌+◌, ◌*◌, ◌≤◌, ◌<◌, min, Bool, true, false, cond, ◌&&◌, ◌||◌, List, ◌⊎◌, ◌≡◌, refl, T, Float, length, get_or, replicate}
 use Rattle.std.proofs.Common.{lt_irrefl, arith, inl, inr, sym, ap, ◌∙◌, subst, lt→ltb, eq-eqb}
 use Rattle.std.proofs.Math.Dec.{ltb, eqb, eqb→eq, ltb→lt}
@@ -17,7 +21,7 @@ use Rattle.steps.specs.Transition.{no_action, raise, transition}
 use Rattle.steps.specs.Events.{Tables, Run, Outcome, stop, go, num_machines, no_runtime, runtime_at, env_of, stored, limit_falls, turn, machine_turn, signal_machine}
 use Rattle.steps.specs.Framework.{rows_in, states_fit, has_ended, ended_in, fits_tables, events_fit, open_run, open_refusal, opening, trigger_events, batch_refusal, refused, accepted, batch}
 use Rattle.steps.specs.Words.{Lent, on_tapes, on_words, outside_refused, batch_on}
-use Rattle.steps.specs.Runs.{either, stored_all, Ok, none_of, opening_ok, batch_ok, event_kept, run_kept}
+use Rattle.steps.specs.Runs.{either, stored_all, OutcomeOk, none_of, opening_ok, batch_ok, event_kept, run_kept}
 use Rattle.steps.specs.Draws.{Refuses, by_any, by_told, by_tapes, by_words, Gives}
 use Rattle.steps.specs.Walk.{Alive, Closed, row_of}
 use Rattle.steps.specs.Machines.{comes_in, opening_kept, Family, member, InRun, batch_kept}
@@ -26,8 +30,6 @@ use Rattle.steps.proofs.Refusals.{tables_most, run_stops}
 use Rattle.steps.specs.declared.MachineRuntime.{MachineRuntime}
 use Rattle.steps.specs.declared.Framework.{Framework}
 use Rattle.steps.specs.declared.TriggerAction.{TriggerAction}
-use Rattle.steps.specs.declared.Stepped.{Stepped}
-use Rattle.steps.specs.declared.Stepped.TheVariants.{Refused, Done}
 
 -- ---- what 18 asks, part by part
 pub record Fits (tables : Tables) (fw : Framework) : Type 0 where
@@ -87,7 +89,7 @@ raised pending i n h = either (λ z. z < 2 + n) (eqb pending 0) (2 + i) 1 (omega
 -- each machine is in its states, a pending signal leaves out one of them, and the pending actions are such as the schedules give
 abbrev pub inside_in : (TriggerAction → Type 0) → Tables → Family
 inside_in A tables = record {
-  Refusal = λ n. Unit;
+  RefusedBy = λ n. Unit;
   Machine = λ i. Inside (states_in tables i);
   Action = λ i. A;
   Signal = λ pending. pending < 2 + rows_in tables.machines;
@@ -114,7 +116,7 @@ module _ (A : TriggerAction → Type 0) (tables : Tables) (D : Source Place) (va
   }
 
   pub run_inside : (time : ℕ) (es : List ℕ) (fw : Framework) → Fits tables fw
-      → Ok (λ n. Unit) (InRun (inside_in A tables) (rows_in tables.machines)) (trigger_events tables D time es fw)
+      → OutcomeOk (λ n. Unit) (InRun (inside_in A tables) (rows_in tables.machines)) (trigger_events tables D time es fw)
   run_inside time es fw f =
       batch_kept (inside_in A tables) (rows_in tables.machines) tables D closed (λ i r c v. v) (omega arith) time es fw
       (num fw.machines (rows_in tables.machines) f.machines (few tables valid)) f.states f.signal
@@ -123,13 +125,13 @@ module _ (A : TriggerAction → Type 0) (tables : Tables) (D : Source Place) (va
       num m n e l = omega arith
 
 -- ---- the machine count stays
-stored_machines : (m : ℕ) (x : Run) (i : ℕ) (s : Stepped) → x.framework.machines ≡ m
-    → Ok (λ n. Unit) (λ y. y.framework.machines ≡ m) (stored x i s)
-stored_machines m x i (Refused n) e = tt
-stored_machines m x i (Done d) e = e
+stored_machines : (m : ℕ) (x : Run) (i : ℕ) (s : Result Step Refusal) → x.framework.machines ≡ m
+    → OutcomeOk (λ n. Unit) (λ y. y.framework.machines ≡ m) (stored x i s)
+stored_machines m x i (Err n) e = tt
+stored_machines m x i (Ok d) e = e
 
 machines_stay : (tables : Tables) (D : Source Place) (time : ℕ) (es : List ℕ) (fw : Framework)
-    → Ok (λ n. Unit) (λ x. x.framework.machines ≡ fw.machines) (trigger_events tables D time es fw)
+    → OutcomeOk (λ n. Unit) (λ x. x.framework.machines ≡ fw.machines) (trigger_events tables D time es fw)
 unfolding machine_turn signal_machine
 machines_stay tables D time es fw =
     run_kept (λ n. Unit) Same tables D (num_machines fw) same (λ x e. e)
@@ -147,7 +149,7 @@ machines_stay tables D time es fw =
     same x e = ap (λ (m : ℕ). min m machine_max) e
 
 -- ---- THEOREM: an accepted batch leaves a framework that fits the tables lent to it.
-ok_both : (P Q : Run → Type 0) (o : Outcome) → Ok (λ n. Unit) P o → Ok (λ n. Unit) Q o → Ok (λ n. Unit) (λ x. P x × Q x) o
+ok_both : (P Q : Run → Type 0) (o : Outcome) → OutcomeOk (λ n. Unit) P o → OutcomeOk (λ n. Unit) Q o → OutcomeOk (λ n. Unit) (λ x. P x × Q x) o
 ok_both P Q (stop n) p q = tt
 ok_both P Q (go x) p q = (p, q)
 
@@ -192,7 +194,7 @@ pub record Fresh (tables : Tables) (x : Run) : Type 0 where
   pub ended : x.framework.ended ≡ 0
 
 pub opens_fresh : (R : ℕ → Type 0) (tables : Tables) (padding blocking : Float) (time : ℕ) (D : Source Place) → Refuses R D
-    → Ok R (Fresh tables) (open_run tables padding blocking time D)
+    → OutcomeOk R (Fresh tables) (open_run tables padding blocking time D)
 opens_fresh R tables padding blocking time D refuses =
     opening_kept R (Fresh tables) tables D refuses comes padding blocking time (record {
       machines = refl;
@@ -206,7 +208,7 @@ opens_fresh R tables padding blocking time D refuses =
     all_zero (suc m) zero = refl
     all_zero (suc m) (suc i) = all_zero m i
 
-    comes : (i limit : ℕ) (at : Place) (x : Run) → Fresh tables x → Ok R (Fresh tables) (comes_in tables i limit at x)
+    comes : (i limit : ℕ) (at : Place) (x : Run) → Fresh tables x → OutcomeOk R (Fresh tables) (comes_in tables i limit at x)
     comes i limit at x f = record {
       machines = f.machines;
       states = stored_all (λ r. r.current_state ≡ 0) x.framework.runtime i _ no_runtime refl f.states;

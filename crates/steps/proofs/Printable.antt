@@ -12,7 +12,7 @@ use Rattle.steps.specs.Limits.{below_action_limits}
 use Rattle.steps.specs.Transition.{no_action, returned_flags, returned_timer}
 use Rattle.steps.specs.Events.{Tables, num_machines, env_of}
 use Rattle.steps.specs.Framework.{rows_in, fits_tables, trigger_events, accepted, batch}
-use Rattle.steps.specs.Runs.{by_test, Ok, ok_any, batch_ok}
+use Rattle.steps.specs.Runs.{by_test, OutcomeOk, ok_any, batch_ok}
 use Rattle.steps.specs.Draws.{Gives}
 use Rattle.steps.specs.Walk.{row_of}
 use Rattle.steps.specs.Machines.{InRun}
@@ -70,7 +70,7 @@ module _ (row : List ℕ) (known : KnownAction row) (some : action_of row ≡ 0 
 
 -- ---- a run over valid tables: the pending actions are small
 run_small : (tables : Tables) (D : Source Place) → Passed tables → (time : ℕ) (es : List ℕ) (fw : Framework) → T (fits_tables tables fw)
-    → Ok (λ n. Unit) (InRun (inside_in Small tables) (rows_in tables.machines)) (trigger_events tables D time es fw)
+    → OutcomeOk (λ n. Unit) (InRun (inside_in Small tables) (rows_in tables.machines)) (trigger_events tables D time es fw)
 run_small tables D valid time es fw t =
     run_inside Small tables D valid none_small
     (λ fw' i h r a v l below g.

@@ -12,7 +12,7 @@ use Rattle.tables.specs.Valid.{TablesAnswer, tables_pass, three, first-machine}
 use Rattle.tables.proofs.Valid.Laws.{answered}
 use Rattle.steps.specs.Events.{Tables, num_machines, env_of}
 use Rattle.steps.specs.Framework.{rows_in, fits_tables, events_fit, open_run, opening, trigger_events, batch_refusal, batch}
-use Rattle.steps.specs.Runs.{either, Ok, ok_map, opening_ok, batch_ok}
+use Rattle.steps.specs.Runs.{either, OutcomeOk, ok_map, opening_ok, batch_ok}
 use Rattle.steps.specs.Draws.{Refuses, by_tapes}
 use Rattle.steps.specs.Walk.{Closed}
 use Rattle.steps.specs.Machines.{Family, member, InRun, batch_kept, opening_kept}
@@ -20,14 +20,14 @@ use Rattle.steps.specs.declared.Framework.{Framework}
 
 -- ---- a run stops only by a refusal of its source
 abbrev anything : (ℕ → Type 0) → Family
-anything R = record { Refusal = R; Machine = λ i r. Unit; Action = λ i a. Unit; Signal = λ pending. Unit }
+anything R = record { RefusedBy = R; Machine = λ i r. Unit; Action = λ i a. Unit; Signal = λ pending. Unit }
 
 module _ (R : ℕ → Type 0) (tables : Tables) (D : Source Place) (refuses : Refuses R D) where
-  pub opening_stops : (padding blocking : Float) (time : ℕ) → Ok R (λ x. Unit) (open_run tables padding blocking time D)
+  pub opening_stops : (padding blocking : Float) (time : ℕ) → OutcomeOk R (λ x. Unit) (open_run tables padding blocking time D)
   opening_stops padding blocking time =
       opening_kept R (λ x. Unit) tables D refuses (λ i limit at x q. tt) padding blocking time tt
 
-  pub run_stops : (time : ℕ) (es : List ℕ) (fw : Framework) → Ok R (λ x. Unit) (trigger_events tables D time es fw)
+  pub run_stops : (time : ℕ) (es : List ℕ) (fw : Framework) → OutcomeOk R (λ x. Unit) (trigger_events tables D time es fw)
   run_stops time es fw =
       ok_map R (InRun (anything R) (num_machines fw)) (λ x. Unit) (trigger_events tables D time es fw)
       (batch_kept (anything R) (num_machines fw) tables D closed (λ i r c v. tt) tt time es fw refl (λ i h. tt) tt)

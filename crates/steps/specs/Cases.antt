@@ -1,5 +1,9 @@
 -- Document 01's marked cases: a table of what the definitions answer beside what document 01 says,
 -- under one statement.
+use Rattle.std.specs.Prelude.{Result, Ok, Err, Option, Some}
+use Rattle.refusal.specs.declared.Refusal.{Refusal}
+use Rattle.machine.specs.declared.source.Draw.{Draw}
+use Rattle.steps.specs.declared.Step.{Step}
 use Rattle.std.specs.Prelude.{ℕ, ◌+◌, ◌^◌, Bool, true, false, List, [], ◌∷◌, ◌++◌, ◌≡◌, refl, pos, Float}
 use Rattle.std.specs.Float.{inf, fin, binary64}
 use Rattle.std.specs.Float.Ieee.{of_bits, of_int, to_unsigned, add, lt, le, eq, div}
@@ -10,35 +14,30 @@ use Rattle.machine.specs.Constants.{action, timeout, counter_a, counter_b, send_
 use Rattle.machine.specs.Event.{normal_sent, counter_zero}
 use Rattle.machine.specs.Source.{tape_values, tapes, place, chance_draw}
 use Rattle.machine.specs.State.{rows_of, walk, sample_state}
-use Rattle.machine.specs.declared.state.Next.{Next}
-use Rattle.machine.specs.declared.state.Next.TheVariants.{State}
 use Rattle.dists.specs.Dist.{dist_type, dist_at, uniform_draw, outside_draw, dist_sample, or_zero, capped, adjusted, sample, got_whole}
 use Rattle.samples.specs.Action.{sample_timeout, sample_limit, has_limit}
 use Rattle.samples.specs.Counter.{sample_value}
 use Rattle.dists.specs.declared.DistType.TheVariants.{Outside}
 use Rattle.dists.specs.declared.Dist.{Dist}
-use Rattle.dists.specs.declared.WholeDrawn.{WholeDrawn}
 use Rattle.steps.specs.Limits.{below_fraction, below_limit_padding, below_action_limits}
 use Rattle.steps.specs.Transition.{Env, env, no_action, enter, applied, update_one, tally_a, tally_b, update_counters, update_counter, finish, transition_by, zero_transition, transition}
 use Rattle.steps.specs.Framework.{shared_from}
 use Rattle.steps.specs.Example.{state_with, pair_first, pair_count, f32, f64, half32, one32, half64, one64, two64, five64}
 use Rattle.steps.specs.declared.MachineRuntime.{MachineRuntime}
 use Rattle.steps.specs.declared.Context.{Context}
-use Rattle.steps.specs.declared.Stepped.{Stepped}
-use Rattle.steps.specs.declared.Stepped.TheVariants.{Refused, Done}
 
 -- an answer of one of the definitions; of a step, the machine's state and its two counters
 pub data Answer : Type 0 where
-  drawn : WholeDrawn → Answer
+  drawn : Result (Draw ℕ) Refusal → Answer
   float : Float → Answer
   test : Bool → Answer
-  next : Next → Answer
+  next : Option ℕ → Answer
   machine : ℕ → ℕ → ℕ → Answer
   none : Answer
 
-abbrev machine_of : Stepped → Answer
-machine_of (Refused n) = none
-machine_of (Done d) = machine d.runtime.current_state d.runtime.counters.counter_a d.runtime.counters.counter_b
+abbrev machine_of : Result Step Refusal → Answer
+machine_of (Err n) = none
+machine_of (Ok d) = machine d.runtime.current_state d.runtime.counters.counter_a d.runtime.counters.counter_b
 
 -- each answer is the expected one
 abbrev pub Rows : List (Answer × Answer) → Type 0
@@ -115,7 +114,7 @@ table =
     (passes 1 1 2, test true) ∷
     (passes 0 0 0, test true) ∷
     -- probabilities 0.5, 0.5 with draw 0.5 choose the second
-    (next (sample_state (7 ∷ half32 ∷ 8 ∷ half32 ∷ []) 0 2 (f32 half32)), next (State 8)) ∷
+    (next (sample_state (7 ∷ half32 ∷ 8 ∷ half32 ∷ []) 0 2 (f32 half32)), next (Some 8)) ∷
     -- A = 3, B = 4, both Set by copy, give 4 and 3
     (after_normal_sent ((counter_a, set_to) ∷ (counter_a + 1, 1) ∷ (counter_b, set_to) ∷ (counter_b + 1, 1) ∷ []) 3 4, machine 1 4 3) ∷
     -- A = 2 minus 5 gives CounterZero: the machine goes on to state 2

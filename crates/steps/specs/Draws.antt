@@ -1,5 +1,10 @@
 -- The laws of draws, whatever the source: a refusal inside a run is one of the source's own, `R` holds of those; and what a scheduled
 -- action has of its row. Assumes nothing.
+use Rattle.refusal.specs.Refusal.{number}
+use Rattle.machine.specs.Source.{draw_of}
+use Rattle.std.specs.Prelude.{Result, Ok, Err}
+use Rattle.refusal.specs.declared.Refusal.{Refusal}
+use Rattle.machine.specs.declared.source.Draw.{Draw}
 use Prim.Native.Nat.{ℕ, ◌+◌, ◌≤◌, ◌<◌, min}
 use Rattle.std.proofs.Common.{arith}
 use Rattle.std.specs.Prelude.{Bool, List, [], ◌∷◌, ◌≡◌, refl, ltb, eqb, length, get_or, drop, Float}
@@ -7,38 +12,26 @@ use Rattle.std.specs.Float.{nan}
 use Rattle.std.specs.Float.Ieee.{eq, le, to_unsigned}
 use Rattle.numbers.specs.Round.{round_away}
 use Rattle.machine.specs.Constants.{timeout, duration, limit, max_sampled_timeout, max_sampled_duration, counter_a, counter_b}
-use Rattle.machine.specs.Source.{Drawn, no, got, Source, Tells, Telling, chance_drawn, chance_draw, place, fit_chance, fit_uniform, any_value, on_tape, tapes}
+use Rattle.machine.specs.Source.{Drawn, no, got, Source, Tells, Telling, chance_draw, place, fit_chance, fit_uniform, any_value, on_tape, tapes}
 use Rattle.machine.specs.Words.{value_of, word_value, words}
 use Rattle.machine.specs.declared.source.Place.{Place}
-use Rattle.machine.specs.declared.source.ChanceDrawn.{ChanceDrawn}
-use Rattle.machine.specs.declared.source.ChanceDrawn.TheVariants.{Refused, GotChance}
-use Rattle.dists.specs.Dist.{dist_at, value_drawn, uniform_draw, outside_draw, sample_of_type, dist_sample, adjusted_draw, sample, whole_of}
+use Rattle.dists.specs.Dist.{dist_at, uniform_draw, outside_draw, sample_of_type, dist_sample, adjusted_draw, sample, whole_of}
 use Rattle.samples.specs.Action.{action_of, has_timeout, has_duration, has_limit, sample_timeout, sample_duration, sample_limit}
 use Rattle.samples.specs.Counter.{sample_value}
 use Rattle.dists.specs.declared.DistType.{DistType}
 use Rattle.dists.specs.declared.DistType.TheVariants.{Absent, Uniform, Outside}
 use Rattle.dists.specs.declared.Dist.{Dist}
-use Rattle.dists.specs.declared.ValueDrawn.{ValueDrawn}
-use Rattle.dists.specs.declared.ValueDrawn.TheVariants.{Refused, GotValue}
-use Rattle.dists.specs.declared.WholeDrawn.{WholeDrawn}
-use Rattle.dists.specs.declared.WholeDrawn.TheVariants.{Refused, GotWhole}
 use Rattle.steps.specs.Transition.{returned_flags, returned_timer, with_duration, with_timeout, schedule_action, changed_by, change_of, update_one, with_a, with_b, tallied, tally_a, tally_b, counter_steps, and_tally, tally_each, untallied, update_counters}
 use Rattle.steps.specs.Runs.{either}
 use Rattle.steps.specs.declared.TriggerAction.{TriggerAction}
 use Rattle.steps.specs.declared.Counters.{Counters}
 use Rattle.steps.specs.declared.Zeroed.{Zeroed}
 use Rattle.steps.specs.declared.Tally.{Tally}
-use Rattle.steps.specs.declared.Tallied.{Tallied}
-use Rattle.steps.specs.declared.Tallied.TheVariants.{Refused, At}
 use Rattle.steps.specs.declared.Counter.{Counter}
-use Rattle.steps.specs.declared.Counted.{Counted}
-use Rattle.steps.specs.declared.Counted.TheVariants.{Refused, NewValue}
-use Rattle.steps.specs.declared.Scheduled.{Scheduled}
-use Rattle.steps.specs.declared.Scheduled.TheVariants.{Refused, Set}
 
 -- ---- a source that refuses by such numbers alone
 abbrev pub DrawOk : (ℕ → Type 0) → Drawn Place Float → Type 0
-DrawOk R (no n at) = R n
+DrawOk R (no r at) = R (number r)
 DrawOk R (got v at) = Unit
 
 pub record Refuses (R : ℕ → Type 0) (D : Source Place) : Type 0 where
@@ -97,17 +90,17 @@ module _ (R : ℕ → Type 0) where
       tried low high (v ∷ vs) c at = either (DrawOk R) (le high (value_of low high v)) _ _ (tried low high vs c (at + 1)) tt
 
   -- ---- answers of draws: a refusal, or a value of which P holds
-  abbrev ValueOk : ValueDrawn → Type 0
-  ValueOk (Refused n) = R n
-  ValueOk (GotValue v) = Unit
+  abbrev ValueOk : Result (Draw Float) Refusal → Type 0
+  ValueOk (Err r) = R (number r)
+  ValueOk (Ok v) = Unit
 
-  abbrev pub WholeOk : (ℕ → Type 0) → WholeDrawn → Type 0
-  WholeOk P (Refused n) = R n
-  WholeOk P (GotWhole w) = P w.value
+  abbrev pub WholeOk : (ℕ → Type 0) → Result (Draw ℕ) Refusal → Type 0
+  WholeOk P (Err r) = R (number r)
+  WholeOk P (Ok w) = P w.value
 
-  abbrev pub ChanceOk : ChanceDrawn → Type 0
-  ChanceOk (Refused n) = R n
-  ChanceOk (GotChance draw at) = Unit
+  abbrev pub ChanceOk : Result (Draw Float) Refusal → Type 0
+  ChanceOk (Err r) = R (number r)
+  ChanceOk (Ok d) = Unit
 
 -- what a scheduled action has of its row
 pub record Gives (row : List ℕ) (a : TriggerAction) : Type 0 where
@@ -118,20 +111,20 @@ pub record Gives (row : List ℕ) (a : TriggerAction) : Type 0 where
   pub duration : a.duration ≤ max_sampled_duration
 
 module _ (R : ℕ → Type 0) where
-  abbrev pub ScheduledOk : List ℕ → Scheduled → Type 0
-  ScheduledOk row (Refused n) = R n
-  ScheduledOk row (Set a at) = Gives row a
+  abbrev pub ScheduledOk : List ℕ → Result (Draw TriggerAction) Refusal → Type 0
+  ScheduledOk row (Err r) = R (number r)
+  ScheduledOk row (Ok d) = Gives row d.value
 
-  abbrev CountedOk : Counted → Type 0
-  CountedOk (Refused n) = R n
-  CountedOk (NewValue c) = Unit
+  abbrev CountedOk : Result Counter Refusal → Type 0
+  CountedOk (Err r) = R (number r)
+  CountedOk (Ok c) = Unit
 
-  abbrev pub TalliedOk : Tallied → Type 0
-  TalliedOk (Refused n) = R n
-  TalliedOk (At t) = Unit
+  abbrev pub TalliedOk : Result Tally Refusal → Type 0
+  TalliedOk (Err r) = R (number r)
+  TalliedOk (Ok t) = Unit
 
 module _ (R : ℕ → Type 0) (D : Source Place) (refuses : Refuses R D) where
-  drawn-ok : (d : Drawn Place Float) → DrawOk R d → ValueOk R (value_drawn d)
+  drawn-ok : (d : Drawn Place Float) → DrawOk R d → ValueOk R (draw_of d)
   drawn-ok (no n at) h = h
   drawn-ok (got v at) h = tt
 
@@ -146,17 +139,17 @@ module _ (R : ℕ → Type 0) (D : Source Place) (refuses : Refuses R D) where
   unfolding sample dist_sample
   sample-ok d at = go (sample_of_type d.dist D.values at) (type-ok d.dist at)
     where
-      go : (v : ValueDrawn) → ValueOk R v → ValueOk R (adjusted_draw d v)
-      go (Refused n) h = h
-      go (GotValue v) h = tt
+      go : (v : Result (Draw Float) Refusal) → ValueOk R v → ValueOk R (adjusted_draw d v)
+      go (Err n) h = h
+      go (Ok v) h = tt
 
   whole-ok : (P : ℕ → Type 0) (f : Float → ℕ) → ((x : Float) → P (f x)) → (d : Dist) (at : Place)
       → WholeOk R P (whole_of f (sample d D.values at))
   whole-ok P f p d at = go (sample d D.values at) (sample-ok d at)
     where
-      go : (v : ValueDrawn) → ValueOk R v → WholeOk R P (whole_of f v)
-      go (Refused n) h = h
-      go (GotValue v) h = p v.value
+      go : (v : Result (Draw Float) Refusal) → ValueOk R v → WholeOk R P (whole_of f v)
+      go (Err n) h = h
+      go (Ok v) h = p v.value
 
   at_most : (m a : ℕ) → min a m ≤ m
   at_most m a = omega arith
@@ -166,7 +159,7 @@ module _ (R : ℕ → Type 0) (D : Source Place) (refuses : Refuses R D) where
   unfolding chance_draw
   chance_ok at = go (D.chance at) (refuses.chance at)
     where
-      go : (d : Drawn Place Float) → DrawOk R d → ChanceOk R (chance_drawn d)
+      go : (d : Drawn Place Float) → DrawOk R d → ChanceOk R (draw_of d)
       go (no n at) h = h
       go (got c at) h = tt
 
@@ -202,14 +195,14 @@ module _ (R : ℕ → Type 0) (D : Source Place) (refuses : Refuses R D) where
     unfolding schedule_action
     schedule_ok at = timed (sample_timeout row D.values at) (timeout-ok at)
       where
-        lasting : (t : ℕ) → t ≤ max_sampled_timeout → (x : WholeDrawn) → WholeOk R (λ v. v ≤ max_sampled_duration) x
+        lasting : (t : ℕ) → t ≤ max_sampled_timeout → (x : Result (Draw ℕ) Refusal) → WholeOk R (λ v. v ≤ max_sampled_duration) x
             → ScheduledOk R row (with_duration row t x)
-        lasting t l (Refused n) h = h
-        lasting t l (GotWhole w) h = record { kind = refl; flags = refl; timer = refl; timeout = l; duration = h }
+        lasting t l (Err n) h = h
+        lasting t l (Ok w) h = record { kind = refl; flags = refl; timer = refl; timeout = l; duration = h }
 
-        timed : (x : WholeDrawn) → WholeOk R (λ v. v ≤ max_sampled_timeout) x → ScheduledOk R row (with_timeout row D.values x)
-        timed (Refused n) h = h
-        timed (GotWhole w) h = lasting w.value h (sample_duration row D.values w.at) (duration-ok w.at)
+        timed : (x : Result (Draw ℕ) Refusal) → WholeOk R (λ v. v ≤ max_sampled_timeout) x → ScheduledOk R row (with_timeout row D.values x)
+        timed (Err n) h = h
+        timed (Ok w) h = lasting w.value h (sample_duration row D.values w.at) (duration-ok w.at)
 
     -- ---- the counters of the row
     one_ok : (k : ℕ) (f : Counter → Tally) (at : Place) (old other : ℕ) (zeroed : Bool)
@@ -221,26 +214,26 @@ module _ (R : ℕ → Type 0) (D : Source Place) (refuses : Refuses R D) where
         (changed (change_of row k D.values at other)
         (either (WholeOk R (λ v. Unit)) (eqb (get_or row (k + 1) 0) 1) _ _ tt (value-ok k at))))
       where
-        changed : (x : WholeDrawn) → WholeOk R (λ v. Unit) x → CountedOk R (changed_by (get_or row k 0) old zeroed x)
-        changed (Refused n) h = h
-        changed (GotWhole w) h = tt
+        changed : (x : Result (Draw ℕ) Refusal) → WholeOk R (λ v. Unit) x → CountedOk R (changed_by (get_or row k 0) old zeroed x)
+        changed (Err n) h = h
+        changed (Ok w) h = tt
 
-        tally : (x : Counted) → CountedOk R x → TalliedOk R (tallied f x)
-        tally (Refused n) h = h
-        tally (NewValue c) h = tt
+        tally : (x : Result Counter Refusal) → CountedOk R x → TalliedOk R (tallied f x)
+        tally (Err n) h = h
+        tally (Ok c) h = tt
 
-  abbrev AllOk : List (Tally → Tallied) → Type 0
+  abbrev AllOk : List (Tally → Result Tally Refusal) → Type 0
   AllOk [] = Unit
   AllOk (f ∷ fs) = ((t : Tally) → TalliedOk R (f t)) × AllOk fs
 
-  tally-each-ok : (fs : List (Tally → Tallied)) → AllOk fs → (t : Tally) → TalliedOk R (tally_each fs t)
+  tally-each-ok : (fs : List (Tally → Result Tally Refusal)) → AllOk fs → (t : Tally) → TalliedOk R (tally_each fs t)
   tally-each-ok [] h t = tt
   tally-each-ok (f ∷ fs) h t = next (f t) (h.0 t) (tally-each-ok fs h.1)
     where
-      next : (x : Tallied) → TalliedOk R x → ((u : Tally) → TalliedOk R (tally_each fs u))
+      next : (x : Result Tally Refusal) → TalliedOk R x → ((u : Tally) → TalliedOk R (tally_each fs u))
           → TalliedOk R (and_tally x (tally_each fs))
-      next (Refused n) o g = o
-      next (At u) o g = g u
+      next (Err n) o g = o
+      next (Ok u) o g = g u
 
   pub counters_ok : (row : List ℕ) (old : Counters) (zeroed : Zeroed) (at : Place)
       → TalliedOk R (update_counters row D.values old zeroed at)

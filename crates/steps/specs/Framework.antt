@@ -1,24 +1,24 @@
 -- framework.rs: the opening (Framework::new), a batch of events (trigger_events) with its refusals and its output, and
 -- all_machines_ended.
+use Rattle.std.specs.Prelude.{Result, Ok, Err}
+use Rattle.refusal.specs.declared.Refusal.{Refusal}
+use Rattle.machine.specs.declared.source.Draw.{Draw}
 use Rattle.std.specs.Prelude.{ℕ, zero, suc, ◌+◌, ◌*◌, ◌/◌, ◌%◌, List, [], ◌∷◌, ◌++◌, Bool, true, false, cond, ◌&&◌, ◌||◌, length, get_or, set, drop, replicate, ltb, leb, eqb, Float}
 use Rattle.numbers.specs.Finite.{zero_f}
 use Rattle.machine.specs.Constants.{machine_max, machine_words, row_words, allowed_blocked_microsec, num_states, state_end}
-use Rattle.machine.specs.Source.{Values, Source, place}
+use Rattle.refusal.specs.Refusal.{number}
+use Rattle.machine.specs.Source.{Values, Source, draw, place}
 use Rattle.machine.specs.Event.{timer_end_kind}
 use Rattle.machine.specs.State.{state_row}
 use Rattle.machine.specs.declared.source.Place.{Place}
 use Rattle.samples.specs.Action.{action_of, sample_limit}
 use Rattle.dists.specs.Dist.{got_whole}
-use Rattle.dists.specs.declared.WholeDrawn.{WholeDrawn}
-use Rattle.dists.specs.declared.WholeDrawn.TheVariants.{Refused, GotWhole}
 unfoldable pub use Rattle.rows.specs.First.{or_else}
 use Rattle.tables.specs.Framework.{fractions_refusal}
 use Rattle.tables.specs.Machine.{tables_refusal}
 use Rattle.steps.specs.Transition.{no_action, with_place}
 use Rattle.steps.specs.Events.{Tables, Run, Outcome, stop, go, and_then, each, no_counts, no_counters, no_runtime, num_machines, runtime_at, with_runtime, machine_word, states_of, event_turn, kind_at, signals}
 use Rattle.steps.specs.declared.MachineRuntime.{MachineRuntime}
-use Rattle.steps.specs.declared.Entered.{Entered}
-use Rattle.steps.specs.declared.Entered.TheVariants.{Refused, In}
 use Rattle.steps.specs.declared.Fixed.{Fixed}
 use Rattle.steps.specs.declared.Totals.{Totals}
 use Rattle.steps.specs.declared.Zeroed.{Zeroed}
@@ -78,24 +78,24 @@ new_runtime time allowed limit = record {
 }
 
 -- the start state's limit; without an action it stays 0
-unfoldable pub start_limit : List ℕ → Values Place → Place → WholeDrawn
+unfoldable pub start_limit : List ℕ → Values Place → Place → Result (Draw ℕ) Refusal
 start_limit row values at = cond (eqb (action_of row) 0) (got_whole 0 at) (sample_limit row values at)
 
 -- machine i as it opens at a time, and where the source goes on
-abbrev pub opened_with : ℕ → ℕ → WholeDrawn → Entered
-opened_with time allowed (Refused n) = Refused n
-opened_with time allowed (GotWhole w) = In (new_runtime time allowed w.value) w.at
+abbrev pub opened_with : ℕ → ℕ → Result (Draw ℕ) Refusal → Result (Draw MachineRuntime) Refusal
+opened_with time allowed (Err n) = Err n
+opened_with time allowed (Ok w) = Ok (draw (new_runtime time allowed w.value) w.at)
 
-unfoldable pub open_machine : Tables → Values Place → ℕ → ℕ → Place → Entered
+unfoldable pub open_machine : Tables → Values Place → ℕ → ℕ → Place → Result (Draw MachineRuntime) Refusal
 open_machine T values i time at =
     opened_with time (machine_word T.machines i allowed_blocked_microsec) (start_limit (state_row (states_of T i) 0) values at)
 
-abbrev pub opened : ℕ → Run → Entered → Outcome
-opened i x (Refused n) = stop n
-opened i x (In r at) = go (record {
-  framework = with_runtime x.framework (set x.framework.runtime i r);
+abbrev pub opened : ℕ → Run → Result (Draw MachineRuntime) Refusal → Outcome
+opened i x (Err r) = stop (number r)
+opened i x (Ok d) = go (record {
+  framework = with_runtime x.framework (set x.framework.runtime i d.value);
   actions = x.actions;
-  shared = with_place x.shared at;
+  shared = with_place x.shared d.at;
 })
 
 abbrev pub open_turn : Tables → Source Place → ℕ → Run → Outcome

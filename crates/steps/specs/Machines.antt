@@ -1,4 +1,10 @@
 -- The walk over all machines of a run: what each machine's steps keep, an opening and a batch keep. Assumes nothing.
+use Rattle.machine.specs.Source.{draw}
+use Rattle.std.specs.Prelude.{Ok}
+use Rattle.std.specs.Prelude.{Result, Err}
+use Rattle.refusal.specs.declared.Refusal.{Refusal}
+use Rattle.machine.specs.declared.source.Draw.{Draw}
+use Rattle.steps.specs.declared.Step.{Step}
 use Prim.Native.Nat.{ℕ, zero, suc, ◌<◌}
 use Rattle.std.proofs.Math.Decide.{ℕ_discrete}
 use mathlib.Core.List.{List}
@@ -10,21 +16,16 @@ use Rattle.machine.specs.Source.{Source}
 use Rattle.machine.specs.State.{state_row}
 use Rattle.machine.specs.declared.source.Place.{Place}
 use Rattle.samples.specs.Action.{action_of}
-use Rattle.dists.specs.declared.WholeDrawn.{WholeDrawn}
-use Rattle.dists.specs.declared.WholeDrawn.TheVariants.{Refused, GotWhole}
 use Rattle.steps.specs.Transition.{no_action, transition}
 use Rattle.steps.specs.Events.{Tables, Run, Outcome, num_machines, no_runtime, runtime_at, machine_word, states_of, env_of, stored, with_counts, limit_falls, turn, machine_turn, pending_of, signal_machine}
 use Rattle.steps.specs.Framework.{shared_from, no_actions, new_framework, new_runtime, start_limit, opened_with, open_machine, opened, open_turn, rows_in, open_run, trigger_events}
-use Rattle.steps.specs.Runs.{either, stored_at, Ok, turns_ok, event_kept, run_kept}
+use Rattle.steps.specs.Runs.{either, stored_at, OutcomeOk, turns_ok, event_kept, run_kept}
 use Rattle.steps.specs.Draws.{Refuses, WholeOk, limit_ok}
 use Rattle.steps.specs.Walk.{Kept, Closed, Stays, transition_kept, turn_kept}
 use Rattle.steps.specs.declared.MachineRuntime.{MachineRuntime}
 use Rattle.steps.specs.declared.Counts.{Counts}
 use Rattle.steps.specs.declared.Framework.{Framework}
 use Rattle.steps.specs.declared.TriggerAction.{TriggerAction}
-use Rattle.steps.specs.declared.Stepped.{Stepped}
-use Rattle.steps.specs.declared.Stepped.TheVariants.{Refused, Done}
-use Rattle.steps.specs.declared.Entered.TheVariants.{Refused, In}
 
 -- ---- the opening: what holds before the machines are in, and goes on to hold as each comes in with some limit
 abbrev pub open_start : Tables → Float → Float → ℕ → Run
@@ -37,11 +38,11 @@ open_start T padding blocking time = record {
 -- machine i as it comes in
 abbrev pub comes_in : Tables → ℕ → ℕ → Place → Run → Outcome
 comes_in T i limit at x =
-    opened i x (In (new_runtime x.framework.current_time (machine_word T.machines i allowed_blocked_microsec) limit) at)
+    opened i x (Ok (draw (new_runtime x.framework.current_time (machine_word T.machines i allowed_blocked_microsec) limit) at))
 
 module _ (R : ℕ → Type 0) (P : Run → Type 0) (T : Tables) (D : Source Place) (refuses : Refuses R D)
-    (comes : (i limit : ℕ) (at : Place) (x : Run) → P x → Ok R P (comes_in T i limit at x)) where
-  open-turn-kept : (i : ℕ) (x : Run) → P x → Ok R P (open_turn T D i x)
+    (comes : (i limit : ℕ) (at : Place) (x : Run) → P x → OutcomeOk R P (comes_in T i limit at x)) where
+  open-turn-kept : (i : ℕ) (x : Run) → P x → OutcomeOk R P (open_turn T D i x)
   unfolding open_machine start_limit
   open-turn-kept i x p =
       with (start_limit row D.values x.shared.place)
@@ -50,25 +51,25 @@ module _ (R : ℕ → Type 0) (P : Run → Type 0) (T : Tables) (D : Source Plac
       row : List ℕ
       row = state_row (states_of T i) 0
 
-      with : (w : WholeDrawn) → WholeOk R (λ v. Unit) w
-          → Ok R P (opened i x (opened_with x.framework.current_time (machine_word T.machines i allowed_blocked_microsec) w))
-      with (Refused n) o = o
-      with (GotWhole w) o = comes i w.value w.at x p
+      with : (w : Result (Draw ℕ) Refusal) → WholeOk R (λ v. Unit) w
+          → OutcomeOk R P (opened i x (opened_with x.framework.current_time (machine_word T.machines i allowed_blocked_microsec) w))
+      with (Err n) o = o
+      with (Ok w) o = comes i w.value w.at x p
 
   pub opening_kept : (padding blocking : Float) (time : ℕ) → P (open_start T padding blocking time)
-      → Ok R P (open_run T padding blocking time D)
+      → OutcomeOk R P (open_run T padding blocking time D)
   opening_kept padding blocking time p =
       turns_ok R P (open_turn T D) (rows_in T.machines) 0 (λ i a b. open-turn-kept i) (open_start T padding blocking time) p
 
 -- ---- What a run keeps: for each machine what its own steps keep, and of all of them the pending signal and the refusals.
 pub record Family : Type 1 where
-  pub Refusal : ℕ → Type 0
+  pub RefusedBy : ℕ → Type 0
   pub Machine : ℕ → MachineRuntime → Type 0
   pub Action : ℕ → TriggerAction → Type 0
   pub Signal : ℕ → Type 0
 
 abbrev pub member : Family → ℕ → Kept
-member F i = record { Refusal = F.Refusal; Machine = F.Machine i; Action = F.Action i; Signal = F.Signal }
+member F i = record { RefusedBy = F.RefusedBy; Machine = F.Machine i; Action = F.Action i; Signal = F.Signal }
 
 -- it holds of the M machines of a run
 pub record InRun (F : Family) (M : ℕ) (x : Run) : Type 0 where
@@ -84,13 +85,13 @@ none_pending P h (suc m) zero = h
 none_pending P h (suc m) (suc i) = none_pending P h m i
 
 module _ (F : Family) (M : ℕ) where
-  open F use {Refusal, Machine, Action, Signal}
+  open F use {RefusedBy, Machine, Action, Signal}
 
   -- a machine's step goes back into the run
-  store_kept : (x : Run) (k : ℕ) → k < M → InRun F M x → (s : Stepped) → Stays (member F k) s
-      → Ok Refusal (InRun F M) (stored x k s)
-  store_kept x k h v (Refused n) o = o
-  store_kept x k h v (Done d) o = record {
+  store_kept : (x : Run) (k : ℕ) → k < M → InRun F M x → (s : Result Step Refusal) → Stays (member F k) s
+      → OutcomeOk RefusedBy (InRun F M) (stored x k s)
+  store_kept x k h v (Err n) o = o
+  store_kept x k h v (Ok d) o = record {
     machines = v.machines;
     each = λ i l. elim (ℕ_discrete i k) [
       | yes e ↦
@@ -113,7 +114,7 @@ module _ (F : Family) (M : ℕ) where
       (counts : (i : ℕ) (r : MachineRuntime) (c : Counts) → Machine i r → Machine i (with_counts r c))
       (none : Signal 0) where
     turn_in : (kind machine blocked k : ℕ) → k < M → (x : Run) → InRun F M x
-        → Ok Refusal (InRun F M) (machine_turn T D kind machine blocked k x)
+        → OutcomeOk RefusedBy (InRun F M) (machine_turn T D kind machine blocked k x)
     unfolding machine_turn
     turn_in kind machine blocked k h x v =
         store_kept x k h v
@@ -123,7 +124,7 @@ module _ (F : Family) (M : ℕ) where
         (runtime_at x.framework k) x.shared (get_or x.actions k no_action)
         (counts k (runtime_at x.framework k) _ (v.each k h)) (v.acts k h) v.signal)
 
-    signal-in : (k : ℕ) → k < M → (x : Run) → InRun F M x → Ok Refusal (InRun F M) (signal_machine T D k x)
+    signal-in : (k : ℕ) → k < M → (x : Run) → InRun F M x → OutcomeOk RefusedBy (InRun F M) (signal_machine T D k x)
     unfolding signal_machine
     signal-in k h x v =
         store_kept x k h v
@@ -133,11 +134,11 @@ module _ (F : Family) (M : ℕ) where
 
     pub batch_kept : (time : ℕ) (es : List ℕ) (fw : Framework) → num_machines fw ≡ M
         → ((i : ℕ) → i < M → Machine i (runtime_at fw i)) → Signal fw.signal_pending
-        → Ok Refusal (InRun F M) (trigger_events T D time es fw)
+        → OutcomeOk RefusedBy (InRun F M) (trigger_events T D time es fw)
     batch_kept time es fw m each pending =
-        run_kept Refusal (InRun F M) T D M (λ x v. v.machines)
+        run_kept RefusedBy (InRun F M) T D M (λ x v. v.machines)
         (λ x v. record { machines = v.machines; each = v.each; acts = v.acts; signal = none }) signal-in
-        (event_kept Refusal (InRun F M) T D M (λ x v. v.machines)
+        (event_kept RefusedBy (InRun F M) T D M (λ x v. v.machines)
         (λ kind x v. record { machines = v.machines; each = v.each; acts = v.acts; signal = v.signal }) turn_in)
         time es fw (record {
           machines = m;

@@ -39,24 +39,24 @@ stored_all P (x ∷ l) (suc i) a d h k zero = k zero
 stored_all P (x ∷ l) (suc i) a d h k (suc j) = stored_all P l i a d h (λ m. k (suc m)) j
 
 -- ---- outcomes
-abbrev pub Ok : (ℕ → Type 0) → (Run → Type 0) → Outcome → Type 0
-Ok R P (stop n) = R n
-Ok R P (go x) = P x
+abbrev pub OutcomeOk : (ℕ → Type 0) → (Run → Type 0) → Outcome → Type 0
+OutcomeOk R P (stop n) = R n
+OutcomeOk R P (go x) = P x
 
 module _ (R : ℕ → Type 0) where
-  pub ok_then : (P Q : Run → Type 0) (o : Outcome) (f : Run → Outcome) → Ok R P o
-      → ((x : Run) → P x → Ok R Q (f x)) → Ok R Q (and_then o f)
+  pub ok_then : (P Q : Run → Type 0) (o : Outcome) (f : Run → Outcome) → OutcomeOk R P o
+      → ((x : Run) → P x → OutcomeOk R Q (f x)) → OutcomeOk R Q (and_then o f)
   ok_then P Q (stop n) f h k = h
   ok_then P Q (go x) f h k = k x h
 
-  pub ok_map : (P Q : Run → Type 0) (o : Outcome) → Ok R P o → ((x : Run) → P x → Q x) → Ok R Q o
+  pub ok_map : (P Q : Run → Type 0) (o : Outcome) → OutcomeOk R P o → ((x : Run) → P x → Q x) → OutcomeOk R Q o
   ok_map P Q (stop n) h k = h
   ok_map P Q (go x) h k = k x h
 
   -- ---- turns in order: P n i x holds of the run x where n turns from turn i on are left
   pub each_ok : (P : ℕ → ℕ → Run → Type 0) (f : ℕ → Run → Outcome)
-      → ((n i : ℕ) (x : Run) → P (suc n) i x → Ok R (P n (i + 1)) (f i x))
-      → (n i : ℕ) (x : Run) → P n i x → Ok R (λ y. (j : ℕ) × P zero j y) (each f n i x)
+      → ((n i : ℕ) (x : Run) → P (suc n) i x → OutcomeOk R (P n (i + 1)) (f i x))
+      → (n i : ℕ) (x : Run) → P n i x → OutcomeOk R (λ y. (j : ℕ) × P zero j y) (each f n i x)
   unfolding each
   each_ok P f h zero i x p = (i, p)
   each_ok P f h (suc n) i x p =
@@ -65,8 +65,8 @@ module _ (R : ℕ → Type 0) where
 
   -- what each of n turns from turn i on keeps
   pub turns_ok : (P : Run → Type 0) (f : ℕ → Run → Outcome) (n i : ℕ)
-      → ((k : ℕ) → i ≤ k → k < i + n → (x : Run) → P x → Ok R P (f k x))
-      → (x : Run) → P x → Ok R P (each f n i x)
+      → ((k : ℕ) → i ≤ k → k < i + n → (x : Run) → P x → OutcomeOk R P (f k x))
+      → (x : Run) → P x → OutcomeOk R P (each f n i x)
   unfolding each
   turns_ok P f zero i h x p = p
   turns_ok P f (suc n) i h x p =
@@ -115,8 +115,8 @@ no_turn kind machine num i h o =
 module _ (R : ℕ → Type 0) (P : Run → Type 0) (T : Tables) (D : Source Place) (M : ℕ)
     (machines : (x : Run) → P x → num_machines x.framework ≡ M) where
   pub event_kept : ((kind : ℕ) (x : Run) → P x → P (account kind x))
-      → ((kind machine blocked i : ℕ) → i < M → (x : Run) → P x → Ok R P (machine_turn T D kind machine blocked i x))
-      → (kind machine : ℕ) (x : Run) → P x → Ok R P (process_event T D kind machine x)
+      → ((kind machine blocked i : ℕ) → i < M → (x : Run) → P x → OutcomeOk R P (machine_turn T D kind machine blocked i x))
+      → (kind machine : ℕ) (x : Run) → P x → OutcomeOk R P (process_event T D kind machine x)
   unfolding process_event
   event_kept counts turn kind machine x p =
       turns_ok R P (machine_turn T D kind machine (blocked_now x.framework))
@@ -126,15 +126,15 @@ module _ (R : ℕ → Type 0) (P : Run → Type 0) (T : Tables) (D : Source Plac
       (account kind x) (counts kind x p)
 
   module _ (taken : (x : Run) → P x → P (unsignalled x))
-      (turn : (i : ℕ) → i < M → (x : Run) → P x → Ok R P (signal_machine T D i x)) where
-    last-kept : (pending : ℕ) (x : Run) → P x → Ok R P (last_signal T D pending x)
+      (turn : (i : ℕ) → i < M → (x : Run) → P x → OutcomeOk R P (signal_machine T D i x)) where
+    last-kept : (pending : ℕ) (x : Run) → P x → OutcomeOk R P (last_signal T D pending x)
     last-kept pending x p =
-        either (Ok R P) (eqb (pending_of x) 0) (go x) _ p
+        either (OutcomeOk R P) (eqb (pending_of x) 0) (go x) _ p
         (out (leb 2 pending) (ltb pending (2 + num_machines x.framework)) (leb-true 2 pending)
         (ltb-true pending (2 + num_machines x.framework)))
       where
         out : (b c : Bool) → (b ≡ true → 2 ≤ pending) → (c ≡ true → pending < 2 + num_machines x.framework)
-            → Ok R P (cond (b && c) (signal_machine T D (pending - 2) (unsignalled x)) (go (unsignalled x)))
+            → OutcomeOk R P (cond (b && c) (signal_machine T D (pending - 2) (unsignalled x)) (go (unsignalled x)))
         out true true h k =
             let a = h refl in
             let b = k refl in
@@ -143,21 +143,21 @@ module _ (R : ℕ → Type 0) (P : Run → Type 0) (T : Tables) (D : Source Plac
         out true false h k = taken x p
         out false c h k = taken x p
 
-    pub signals_kept : (x : Run) → P x → Ok R P (signals T D x)
+    pub signals_kept : (x : Run) → P x → OutcomeOk R P (signals T D x)
     unfolding signals
     signals_kept x p =
-        either (Ok R P) (eqb (pending_of x) 0) _ _ p
+        either (OutcomeOk R P) (eqb (pending_of x) 0) _ _ p
         (ok_then R P P (each (signal_turn T D (pending_of x)) (num_machines x.framework) 0 (unsignalled x))
         (last_signal T D (pending_of x))
         (turns_ok R P (signal_turn T D (pending_of x)) (num_machines x.framework) 0
-        (λ i a b y q. either (Ok R P) (eqb (pending_of x) (2 + i)) (go y) (signal_machine T D i y) q (turn i (known i b) y q))
+        (λ i a b y q. either (OutcomeOk R P) (eqb (pending_of x) (2 + i)) (go y) (signal_machine T D i y) q (turn i (known i b) y q))
         (unsignalled x) (taken x p)) (last-kept (pending_of x)))
       where
         known : (i : ℕ) → i < 0 + num_machines x.framework → i < M
         known i b = let e = machines x p in omega arith
 
-    pub run_kept : ((kind machine : ℕ) (x : Run) → P x → Ok R P (process_event T D kind machine x))
-        → (time : ℕ) (es : List ℕ) (fw : Framework) → P (begin fw time) → Ok R P (trigger_events T D time es fw)
+    pub run_kept : ((kind machine : ℕ) (x : Run) → P x → OutcomeOk R P (process_event T D kind machine x))
+        → (time : ℕ) (es : List ℕ) (fw : Framework) → P (begin fw time) → OutcomeOk R P (trigger_events T D time es fw)
     unfolding trigger_events
     run_kept event time es fw p =
         ok_then R P P (each (event_turn T D es) (length es / 2) 0 (begin fw time)) (signals T D)
@@ -176,7 +176,7 @@ none_of a b h = by (eqb a 0) (eqb-true a 0) (eqb-false a 0) h
 -- ---- an opening and a batch: refused by a check, stopped in the run, or accepted
 module _ (R : ℕ → Type 0) (Q : Run → Type 0) where
   pub opening_ok : (P : Opened → Type 0) (T : Tables) (padding blocking : Float) (time : ℕ) (D : Source Place)
-      → (open_refusal T padding blocking ≡ 0 → Ok R Q (open_run T padding blocking time D))
+      → (open_refusal T padding blocking ≡ 0 → OutcomeOk R Q (open_run T padding blocking time D))
       → ((open_refusal T padding blocking ≡ 0 → ⊥) → P (opened_by (stop (open_refusal T padding blocking))))
       → (open_refusal T padding blocking ≡ 0 → (n : ℕ) → R n → P (opened_by (stop n)))
       → (open_refusal T padding blocking ≡ 0 → (x : Run) → Q x → P (opened_by (go x)))
@@ -189,12 +189,12 @@ module _ (R : ℕ → Type 0) (Q : Run → Type 0) where
       n : ℕ
       n = open_refusal T padding blocking
 
-      by : (o : Outcome) → Ok R Q o → open_refusal T padding blocking ≡ 0 → P (opened_by o)
+      by : (o : Outcome) → OutcomeOk R Q o → open_refusal T padding blocking ≡ 0 → P (opened_by o)
       by (stop k) h e = stopped e k h
       by (go x) h e = goes e x h
 
   pub batch_ok : (P : Batch → Type 0) (fw : Framework) (T : Tables) (time : ℕ) (es : List ℕ) (D : Source Place) (out : List ℕ)
-      → (batch_refusal fw T es out ≡ 0 → Ok R Q (trigger_events T D time es fw))
+      → (batch_refusal fw T es out ≡ 0 → OutcomeOk R Q (trigger_events T D time es fw))
       → ((batch_refusal fw T es out ≡ 0 → ⊥) → P (refused fw out (batch_refusal fw T es out)))
       → (batch_refusal fw T es out ≡ 0 → (n : ℕ) → R n → P (refused fw out n))
       → (batch_refusal fw T es out ≡ 0 → (x : Run) → Q x → P (accepted x out))
@@ -207,11 +207,11 @@ module _ (R : ℕ → Type 0) (Q : Run → Type 0) where
       n : ℕ
       n = batch_refusal fw T es out
 
-      by : (o : Outcome) → Ok R Q o → batch_refusal fw T es out ≡ 0 → P (concluded fw out o)
+      by : (o : Outcome) → OutcomeOk R Q o → batch_refusal fw T es out ≡ 0 → P (concluded fw out o)
       by (stop k) h e = stopped e k h
       by (go x) h e = goes e x h
 
 -- of any outcome
-pub ok_any : (o : Outcome) → Ok (λ n. Unit) (λ x. Unit) o
+pub ok_any : (o : Outcome) → OutcomeOk (λ n. Unit) (λ x. Unit) o
 ok_any (stop n) = tt
 ok_any (go x) = tt

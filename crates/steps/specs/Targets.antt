@@ -1,5 +1,6 @@
 -- A machine of valid tables stays in its states: a choice goes to a target of its row, and the table checks leave only states of the
 -- machine and the special ones. Assumes nothing.
+use Rattle.std.specs.Prelude.{Option, Some, None}
 use Rattle.std.specs.Prelude.{ℕ, zero, suc, ◌+◌, ◌*◌, ◌≤◌, ◌<◌, min, Bool, true, false, ◌||◌, List, ◌⊎◌, ◌≡◌, T, leb, ltb, eqb, Float, length, get_or, take, drop}
 use Rattle.std.proofs.Math.Decide.{ℕ_discrete, dec_lt}
 use Rattle.std.proofs.Common.{le_refl, arith, inl, inr, sym, ◌∙◌, eqb→eq, ltb→lt, lit<, length-take}
@@ -13,8 +14,6 @@ use Rattle.machine.specs.Constants.{events, event_num, machine_words, state_word
 use Rattle.machine.specs.Source.{Source}
 use Rattle.machine.specs.declared.source.Place.{Place}
 use Rattle.machine.specs.State.{rows_of, state_row, first_of, count_of, target_at, probability_at, walk, sample_state}
-use Rattle.machine.specs.declared.state.Next.{Next}
-use Rattle.machine.specs.declared.state.Next.TheVariants.{State, Nothing}
 use Rattle.tables.specs.Machine.{tables_refusal}
 use Rattle.tables.specs.Valid.{Target, ValidPair, ValidState}
 use Rattle.tables.proofs.Valid.Laws.{zero_valid}
@@ -34,9 +33,9 @@ in_state r (inl e) alive = absurd (alive e)
 in_state r (inr h) alive = h
 
 -- ---- a choice goes to a target of its row
-abbrev pub Aimed : ℕ → Next → Type 0
-Aimed n Nothing = Unit
-Aimed n (State t) = Target n t
+abbrev pub Aimed : ℕ → Option ℕ → Type 0
+Aimed n None = Unit
+Aimed n (Some t) = Target n t
 
 walk_aimed : (ts : List ℕ) (n : ℕ) (sum draw : Float) (k i : ℕ)
     → ((j : ℕ) → i ≤ j → j < i + k → Target n (target_at ts j)) → Aimed n (walk ts i k sum draw)

@@ -1,5 +1,11 @@
 -- The walk over one machine's steps: what entering a state, the counters, END, SIGNAL, a scheduled action and the fall of a limit keep,
 -- a transition, a turn and a signal keep. A lemma for each definition of `Transition`. Assumes nothing.
+use Rattle.refusal.specs.Refusal.{number}
+use Rattle.std.specs.Prelude.{Result, Ok, Err, Option, Some, None}
+use Rattle.refusal.specs.declared.Refusal.{Refusal}
+use Rattle.machine.specs.declared.source.Draw.{Draw}
+use Rattle.steps.specs.declared.Step.{Step}
+use Rattle.steps.specs.declared.Tally.{Tally}
 use Prim.Native.Nat.{ℕ, zero, suc, ◌-◌}
 use Rattle.std.specs.Prelude.{Bool, ◌&&◌, List, ◌≡◌, eqb, Float}
 use Rattle.std.proofs.Math.Bool.{true, false, not}
@@ -11,13 +17,7 @@ use Rattle.machine.specs.Event.{event_of, limit_reached, counter_zero}
 use Rattle.machine.specs.Source.{chance_draw}
 use Rattle.machine.specs.State.{state_row, first_of, count_of, sample_state}
 use Rattle.machine.specs.declared.source.Place.{Place}
-use Rattle.machine.specs.declared.source.ChanceDrawn.{ChanceDrawn}
-use Rattle.machine.specs.declared.source.ChanceDrawn.TheVariants.{Refused, GotChance}
-use Rattle.machine.specs.declared.state.Next.{Next}
-use Rattle.machine.specs.declared.state.Next.TheVariants.{State, Nothing}
 use Rattle.samples.specs.Action.{sample_limit, has_limit}
-use Rattle.dists.specs.declared.WholeDrawn.{WholeDrawn}
-use Rattle.dists.specs.declared.WholeDrawn.TheVariants.{Refused, GotWhole}
 use Rattle.steps.specs.Limits.{below_action_limits}
 use Rattle.steps.specs.Transition.{Env, no_action, with_state, with_counters, with_place, with_tally, entered_with, enter, raise, schedule_action, update_counters, has_changed, scheduled_step, finish, finished, after_zero, after_counters, update_counter, entering, going, drawn, choosing, transition_by, zero_transition, transition, decrement_limit}
 use Rattle.steps.specs.Events.{counted_by, after_transition, turn}
@@ -26,22 +26,12 @@ use Rattle.steps.specs.Draws.{Refuses, WholeOk, ChanceOk, Gives, ScheduledOk, Ta
 use Rattle.steps.specs.declared.MachineRuntime.{MachineRuntime}
 use Rattle.steps.specs.declared.Counters.{Counters}
 use Rattle.steps.specs.declared.Shared.{Shared}
-use Rattle.steps.specs.declared.Tallied.{Tallied}
-use Rattle.steps.specs.declared.Tallied.TheVariants.{Refused, At}
 use Rattle.steps.specs.declared.TriggerAction.{TriggerAction}
-use Rattle.steps.specs.declared.Stepped.{Stepped}
-use Rattle.steps.specs.declared.Stepped.TheVariants.{Refused, Done}
 use Rattle.steps.specs.declared.Update.{Update}
-use Rattle.steps.specs.declared.Updated.{Updated}
-use Rattle.steps.specs.declared.Updated.TheVariants.{Refused, Ready}
-use Rattle.steps.specs.declared.Entered.{Entered}
-use Rattle.steps.specs.declared.Entered.TheVariants.{Refused, In}
-use Rattle.steps.specs.declared.Scheduled.{Scheduled}
-use Rattle.steps.specs.declared.Scheduled.TheVariants.{Refused, Set}
 
 -- What is kept: of the numbers of refusals, of a machine, of its pending action and of the pending signal.
 pub record Kept : Type 1 where
-  pub Refusal : ℕ → Type 0
+  pub RefusedBy : ℕ → Type 0
   pub Machine : MachineRuntime → Type 0
   pub Action : TriggerAction → Type 0
   pub Signal : ℕ → Type 0
@@ -58,13 +48,13 @@ pub record Chosen (E : Env) (r : MachineRuntime) (next : ℕ) : Type 0 where
   pub event : ℕ
   pub draw : Float
   pub alive : Alive r
-  pub chosen : sample_state E.transitions (first_of (row_of E r) event) (count_of (row_of E r) event) draw ≡ State next
+  pub chosen : sample_state E.transitions (first_of (row_of E r) event) (count_of (row_of E r) event) draw ≡ Some next
   pub no_end : next ≡ state_end → ⊥
   pub no_signal : next ≡ state_signal → ⊥
 
 -- What keeps it: each thing that a step does.
 pub record Closed (E : Env) (K : Kept) : Type 0 where
-  pub refuses : Refuses K.Refusal E.source
+  pub refuses : Refuses K.RefusedBy E.source
   pub enters : (r : MachineRuntime) (next limit : ℕ) → K.Machine r → Chosen E r next → K.Machine (with_state r next limit)
   pub ends : (r : MachineRuntime) → K.Machine r → Alive r → K.Machine (with_state r state_end r.state_limit)
   pub falls : (r : MachineRuntime) → K.Machine r → K.Machine (with_state r r.current_state (r.state_limit - 1))
@@ -76,20 +66,20 @@ pub record Closed (E : Env) (K : Kept) : Type 0 where
   pub raises : (pending : ℕ) → K.Signal pending → K.Signal (raise pending E.context.machine)
 
 -- it holds after a step
-abbrev pub Stays : Kept → Stepped → Type 0
-Stays K (Refused n) = K.Refusal n
-Stays K (Done d) = K.Machine d.runtime × K.Action d.action × K.Signal d.shared.signal_pending
+abbrev pub Stays : Kept → Result Step Refusal → Type 0
+Stays K (Err r) = K.RefusedBy (number r)
+Stays K (Ok d) = K.Machine d.runtime × K.Action d.action × K.Signal d.shared.signal_pending
 
 module _ (E : Env) (K : Kept) (C : Closed E K) where
-  open K use {Refusal, Machine, Action, Signal}
+  open K use {RefusedBy, Machine, Action, Signal}
 
-  abbrev UpdateStays : Updated → Type 0
-  UpdateStays (Refused n) = Refusal n
-  UpdateStays (Ready u) = Machine u.runtime × Action u.action × Signal u.shared.signal_pending
+  abbrev UpdateStays : Result Update Refusal → Type 0
+  UpdateStays (Err r) = RefusedBy (number r)
+  UpdateStays (Ok u) = Machine u.runtime × Action u.action × Signal u.shared.signal_pending
 
-  abbrev EntryStays : ℕ → Entered → Type 0
-  EntryStays next (Refused n) = Refusal n
-  EntryStays next (In r at) = Machine r × (r.current_state ≡ next)
+  abbrev EntryStays : ℕ → Result (Draw MachineRuntime) Refusal → Type 0
+  EntryStays next (Err r) = RefusedBy (number r)
+  EntryStays next (Ok d) = Machine d.value × (d.value.current_state ≡ next)
 
   -- ---- entering a state
   enter-kept : (row : List ℕ) (r : MachineRuntime) (next : ℕ) (at : Place) → Machine r → Chosen E r next
@@ -97,20 +87,20 @@ module _ (E : Env) (K : Kept) (C : Closed E K) where
   unfolding enter
   enter-kept row r next at h c =
       by_test (EntryStays next) (eqb r.current_state next) _ _ (λ e. (h, eqb-true r.current_state next e))
-      (λ e. with (sample_limit row E.source.values at) (limit_ok Refusal E.source C.refuses row at))
+      (λ e. with (sample_limit row E.source.values at) (limit_ok RefusedBy E.source C.refuses row at))
     where
-      with : (x : WholeDrawn) → WholeOk Refusal (λ v. Unit) x → EntryStays next (entered_with r next x)
-      with (Refused n) o = o
-      with (GotWhole w) o = (C.enters r next w.value h c, refl)
+      with : (x : Result (Draw ℕ) Refusal) → WholeOk RefusedBy (λ v. Unit) x → EntryStays next (entered_with r next x)
+      with (Err n) o = o
+      with (Ok w) o = (C.enters r next w.value h c, refl)
 
   -- ---- after the counters: `below` was judged before them
   finish-kept : (row : List ℕ) (before : ℕ) (below : Bool) → (below ≡ true → (a : TriggerAction) → Gives row a → Action a)
-      → (u : Update) → UpdateStays (Ready u) → Stays K (finish row E.source.values before below u)
+      → (u : Update) → UpdateStays (Ok u) → Stays K (finish row E.source.values before below u)
   unfolding finish
   finish-kept row before below j u o =
       by_test (Stays K) (u.allow_schedule && below) _ _
       (λ e. set (j (second u.allow_schedule below e)) (schedule_action row E.source.values u.shared.place)
-      (schedule_ok Refusal E.source C.refuses row u.shared.place))
+      (schedule_ok RefusedBy E.source C.refuses row u.shared.place))
       (λ e. o)
     where
       second : (a b : Bool) → (a && b) ≡ true → b ≡ true
@@ -118,65 +108,65 @@ module _ (E : Env) (K : Kept) (C : Closed E K) where
       second false true e = refl
       second false false e = e
 
-      set : ((a : TriggerAction) → Gives row a → Action a) → (x : Scheduled) → ScheduledOk Refusal row x
+      set : ((a : TriggerAction) → Gives row a → Action a) → (x : Result (Draw TriggerAction) Refusal) → ScheduledOk RefusedBy row x
           → Stays K (scheduled_step u (has_changed before u) x)
-      set j (Refused n) g = g
-      set j (Set a at) g = (o.0, j a g, o.2)
+      set j (Err n) g = g
+      set j (Ok d) g = (o.0, j d.value g, o.2)
 
   -- ---- transition and update_counter, given that a CounterZero transition keeps it
-  abbrev Again : (MachineRuntime → Shared → TriggerAction → Stepped) → Type 0
+  abbrev Again : (MachineRuntime → Shared → TriggerAction → Result Step Refusal) → Type 0
   Again z =
       (r : MachineRuntime) (s : Shared) (a : TriggerAction) → Machine r → Action a → Signal s.signal_pending
       → Stays K (z r s a)
 
-  module _ (z : MachineRuntime → Shared → TriggerAction → Stepped) (again : Again z) where
+  module _ (z : MachineRuntime → Shared → TriggerAction → Result Step Refusal) (again : Again z) where
     update-kept : (row : List ℕ) (r : MachineRuntime) (s : Shared) (a : TriggerAction) → Machine r → Action a
         → Signal s.signal_pending → UpdateStays (update_counter z E row r s a)
     unfolding update_counter
     update-kept row r s a h p q =
         counted (update_counters row E.source.values r.counters s.zeroed s.place)
-        (counters_ok Refusal E.source C.refuses row r.counters s.zeroed s.place)
+        (counters_ok RefusedBy E.source C.refuses row r.counters s.zeroed s.place)
       where
-        after : (x : Stepped) → Stays K x → UpdateStays (after_zero x)
-        after (Refused n) o = o
-        after (Done d) o = o
+        after : (x : Result Step Refusal) → Stays K x → UpdateStays (after_zero x)
+        after (Err n) o = o
+        after (Ok d) o = o
 
-        counted : (x : Tallied) → TalliedOk Refusal x → UpdateStays (after_counters z E r s a x)
-        counted (Refused n) o = o
-        counted (At t) o =
+        counted : (x : Result Tally Refusal) → TalliedOk RefusedBy x → UpdateStays (after_counters z E r s a x)
+        counted (Err n) o = o
+        counted (Ok t) o =
             let k = C.counters r t.counters h in
             either UpdateStays t.reports _ _
             (after (z (with_counters r t.counters) (with_tally s t) a)
             (again (with_counters r t.counters) (with_tally s t) a k p q)) (k, p, q)
 
     entering-kept : (next before : ℕ) (s : Shared) (a : TriggerAction) → (next ≡ state_end → ⊥) → Action a
-        → Signal s.signal_pending → (x : Entered) → EntryStays next x
+        → Signal s.signal_pending → (x : Result (Draw MachineRuntime) Refusal) → EntryStays next x
         → Stays K (entering z E (state_row E.rows next) before s a x)
-    entering-kept next before s a e p q (Refused n) o = o
-    entering-kept next before s a e p q (In r at) o =
-        finished-kept (update_counter z E row r (with_place s at) a) (update-kept row r (with_place s at) a o.0 p q)
+    entering-kept next before s a e p q (Err n) o = o
+    entering-kept next before s a e p q (Ok d) o =
+        finished-kept (update_counter z E row d.value (with_place s d.at) a) (update-kept row d.value (with_place s d.at) a o.0 p q)
       where
         row : List ℕ
         row = state_row E.rows next
 
         -- the row is that of the machine's state
-        passes : below_action_limits E.context r row ≡ true → (b : TriggerAction) → Gives row b → Action b
+        passes : below_action_limits E.context d.value row ≡ true → (b : TriggerAction) → Gives row b → Action b
         passes h b g =
-            C.schedules r b o.0 (λ f. e (sym o.1 ∙ f))
-            (subst (λ (m : ℕ). below_action_limits E.context r (state_row E.rows m) ≡ true) (sym o.1) h)
+            C.schedules d.value b o.0 (λ f. e (sym o.1 ∙ f))
+            (subst (λ (m : ℕ). below_action_limits E.context d.value (state_row E.rows m) ≡ true) (sym o.1) h)
             (subst (λ (m : ℕ). Gives (state_row E.rows m) b) (sym o.1) g)
 
-        finished-kept : (x : Updated) → UpdateStays x
-            → Stays K (finished row E.source.values before (below_action_limits E.context r row) x)
-        finished-kept (Refused n) u = u
-        finished-kept (Ready u) w = finish-kept row before (below_action_limits E.context r row) passes u w
+        finished-kept : (x : Result Update Refusal) → UpdateStays x
+            → Stays K (finished row E.source.values before (below_action_limits E.context d.value row) x)
+        finished-kept (Err n) u = u
+        finished-kept (Ok u) w = finish-kept row before (below_action_limits E.context d.value row) passes u w
 
     going-kept : (event : ℕ) (draw : Float) (r : MachineRuntime) (s : Shared) (a : TriggerAction) → Machine r → Alive r → Action a
-        → Signal s.signal_pending → (x : Next)
+        → Signal s.signal_pending → (x : Option ℕ)
         → sample_state E.transitions (first_of (row_of E r) event) (count_of (row_of E r) event) draw ≡ x
         → Stays K (going z E r s a x)
-    going-kept event draw r s a h l p q Nothing e = (h, p, q)
-    going-kept event draw r s a h l p q (State next) e =
+    going-kept event draw r s a h l p q None e = (h, p, q)
+    going-kept event draw r s a h l p q (Some next) e =
         by_test (Stays K) (eqb next state_end) _ _ (λ f. (C.ends r h l, p, q))
         (λ f. by_test (Stays K) (eqb next state_signal) _ _ (λ g. (h, p, C.raises s.signal_pending q))
         (λ g. entering-kept next r.current_state s a (eqb-false next state_end f) p q
@@ -195,13 +185,13 @@ module _ (E : Env) (K : Kept) (C : Closed E K) where
         by_test (Stays K) (eqb r.current_state state_end) _ _ (λ e. (h, p, q))
         (λ e. either (Stays K) (eqb (count_of (row_of E r) event) 0) _ _ (h, p, q)
         (chosen (eqb-false r.current_state state_end e) (chance_draw E.source.chance s.place)
-        (chance_ok Refusal E.source C.refuses s.place)))
+        (chance_ok RefusedBy E.source C.refuses s.place)))
       where
-        chosen : Alive r → (x : ChanceDrawn) → ChanceOk Refusal x → Stays K (drawn z E (row_of E r) event r s a x)
-        chosen l (Refused n) o = o
-        chosen l (GotChance draw at) o =
-            going-kept event draw r (with_place s at) a h l p q
-            (sample_state E.transitions (first_of (row_of E r) event) (count_of (row_of E r) event) draw) refl
+        chosen : Alive r → (x : Result (Draw Float) Refusal) → ChanceOk RefusedBy x → Stays K (drawn z E (row_of E r) event r s a x)
+        chosen l (Err n) o = o
+        chosen l (Ok d) o =
+            going-kept event d.value r (with_place s d.at) a h l p q
+            (sample_state E.transitions (first_of (row_of E r) event) (count_of (row_of E r) event) d.value) refl
 
     by-kept : (event : ℕ) → Again (transition_by z E event)
     unfolding transition_by
@@ -233,8 +223,8 @@ module _ (E : Env) (K : Kept) (C : Closed E K) where
       after (transition E (event_of kind) (counted_by kind blocked r) s a)
       (transition_kept (event_of kind) (counted_by kind blocked r) s a h p q)
     where
-      after : (x : Stepped) → Stays K x → Stays K (after_transition E falls x)
-      after (Refused n) o = o
-      after (Done d) o =
+      after : (x : Result Step Refusal) → Stays K x → Stays K (after_transition E falls x)
+      after (Err n) o = o
+      after (Ok d) o =
           either (Stays K) (falls && not d.changed && not (eqb d.runtime.current_state state_end)) _ _
           (decrement_kept d.runtime d.shared d.action o.0 o.1 o.2) o

@@ -122,13 +122,6 @@ pub struct Step {
     pub changed: bool,
 }
 
-// A step, or the refusal that it met.
-#[derive(Clone, Copy)]
-pub enum Stepped {
-    Refused(u64),
-    Done(Step),
-}
-
 // A counter after its update: its value, where the tapes go on, whether it has reported zero in this call, and whether it does
 // so now.
 #[derive(Clone, Copy)]
@@ -139,12 +132,6 @@ pub struct Counter {
     pub reports: bool,
 }
 
-#[derive(Clone, Copy)]
-pub enum Counted {
-    Refused(u64),
-    NewValue(Counter),
-}
-
 // A row's counters after the update of some of them: their values, where the tapes go on, which have reported zero in this call,
 // and whether one does so now.
 #[derive(Clone, Copy)]
@@ -153,12 +140,6 @@ pub struct Tally {
     pub place: Place,
     pub zeroed: Zeroed,
     pub reports: bool,
-}
-
-#[derive(Clone, Copy)]
-pub enum Tallied {
-    Refused(u64),
-    At(Tally),
 }
 
 // A machine after its counter update, and what update_counter answers: whether an action may be scheduled, and whether the state
@@ -172,38 +153,10 @@ pub struct Update {
     pub state_changed: bool,
 }
 
+// A run of events or signals over all machines.
 #[derive(Clone, Copy)]
-pub enum Updated {
-    Refused(u64),
-    Ready(Update),
-}
-
-// A machine in a state, its limit drawn where the state is another one, and where the tapes go on.
-#[derive(Clone, Copy)]
-pub enum Entered {
-    Refused(u64),
-    In(MachineRuntime, Place),
-}
-
-// An action to return, and where the tapes go on.
-#[derive(Clone, Copy)]
-pub enum Scheduled {
-    Refused(u64),
-    Set(TriggerAction, Place),
-}
-
-// Whether a run went to its end.
-#[derive(Clone, Copy)]
-pub enum Verdict {
-    Complete,
-    Refused(u64),
-}
-
-// A run of events or signals over all machines; after a refusal, all as it was when the run began.
-#[derive(Clone, Copy)]
-pub struct Ran {
+pub struct Run {
     pub framework: Framework,
-    pub verdict: Verdict,
     pub actions: [TriggerAction; 16],
     pub shared: Shared,
 }

@@ -1,5 +1,9 @@
 -- A counter that reports zero uses up its report, so that fewer may follow: what makes the recursion of transition and counter
 -- update end. Assumes nothing.
+use Rattle.std.specs.Prelude.{Result, Ok, Err}
+use Rattle.refusal.specs.declared.Refusal.{Refusal}
+use Rattle.machine.specs.declared.source.Draw.{Draw}
+use Rattle.steps.specs.declared.Counter.{Counter}
 use Prim.Native.Nat.{ℕ, zero, suc, ◌+◌, ◌-◌, ◌≤◌, ◌<◌}
 use native.Mathlib.Nat.{le_trans, lt_irrefl}
 use native.Mathlib.Omega.{arith}
@@ -12,16 +16,10 @@ use Rattle.machine.specs.Constants.{counter_a, counter_b}
 use Rattle.machine.specs.Event.{counter_zero}
 use Rattle.machine.specs.Source.{Values}
 use Rattle.machine.specs.declared.source.Place.{Place}
-use Rattle.dists.specs.declared.WholeDrawn.{WholeDrawn}
-use Rattle.dists.specs.declared.WholeDrawn.TheVariants.{Refused, GotWhole}
 use Rattle.steps.specs.Transition.{Env, with_counters, with_tally, applied, counter_of, changed_by, change_of, update_one, tallied, with_a, with_b, tally_a, tally_b, counter_steps, and_tally, tally_each, untallied, update_counters, unspent, left, after_zero, update_counter, zero_transition, transition_at, update_counter_at}
-use Rattle.steps.specs.declared.Counted.{Counted}
-use Rattle.steps.specs.declared.Counted.TheVariants.{Refused, NewValue}
 use Rattle.steps.specs.declared.Counters.{Counters}
 use Rattle.steps.specs.declared.MachineRuntime.{MachineRuntime}
 use Rattle.steps.specs.declared.Shared.{Shared}
-use Rattle.steps.specs.declared.Tallied.{Tallied}
-use Rattle.steps.specs.declared.Tallied.TheVariants.{Refused, At}
 use Rattle.steps.specs.declared.Tally.{Tally}
 use Rattle.steps.specs.declared.TriggerAction.{TriggerAction}
 use Rattle.steps.specs.declared.Zeroed.{Zeroed}
@@ -30,9 +28,9 @@ use Rattle.steps.specs.declared.Zeroed.{Zeroed}
 abbrev one : Bool → ℕ
 one b = cond b 1 0
 
-abbrev Spent : Bool → Counted → Type 0
-Spent z (Refused n) = Unit
-Spent z (NewValue c) = unspent c.zeroed + one c.reports ≡ unspent z
+abbrev Spent : Bool → Result Counter Refusal → Type 0
+Spent z (Err n) = Unit
+Spent z (Ok c) = unspent c.zeroed + one c.reports ≡ unspent z
 
 made_spent : (p q z : Bool) (value : ℕ) (at : Place) → Spent z (counter_of (not p && q && not z) value z at)
 made_spent true q true value at = refl
@@ -47,19 +45,19 @@ spent : (row : List ℕ) (k : ℕ) (values : Values Place) (at : Place) (old oth
 unfolding update_one
 spent row k values at old other z = by-case (eqb (get_or row k 0) 0) (change_of row k values at other)
   where
-    by-case : (none : Bool) (d : WholeDrawn) → Spent z (cond none (counter_of false old z at) (changed_by (get_or row k 0) old z d))
+    by-case : (none : Bool) (d : Result (Draw ℕ) Refusal) → Spent z (cond none (counter_of false old z at) (changed_by (get_or row k 0) old z d))
     by-case true d = made_spent true true z old at
-    by-case false (Refused n) = tt
-    by-case false (GotWhole w) =
+    by-case false (Err n) = tt
+    by-case false (Ok w) =
         made_spent (eqb old 0) (eqb (applied (get_or row k 0) old w.value) 0) z (applied (get_or row k 0) old w.value) w.at
 
 -- ---- the counters of a row: what may still be reported, and what is
 abbrev weight : Tally → ℕ
 weight t = unspent t.zeroed.counter_a + unspent t.zeroed.counter_b + one t.reports
 
-abbrev Lighter : ℕ → Tallied → Type 0
-Lighter n (Refused k) = Unit
-Lighter n (At t) = weight t ≤ n
+abbrev Lighter : ℕ → Result Tally Refusal → Type 0
+Lighter n (Err k) = Unit
+Lighter n (Ok t) = weight t ≤ n
 
 one_or : (a b : Bool) → one (a || b) ≤ one a + one b
 one_or true b = omega arith
@@ -71,9 +69,9 @@ a_lighter row values old t =
     go (update_one row counter_a values t.place old.counter_a old.counter_b t.zeroed.counter_a)
     (spent row counter_a values t.place old.counter_a old.counter_b t.zeroed.counter_a)
   where
-    go : (x : Counted) → Spent t.zeroed.counter_a x → Lighter (weight t) (tallied (with_a t) x)
-    go (Refused n) h = tt
-    go (NewValue c) h = omega (arith, h, one_or t.reports c.reports)
+    go : (x : Result Counter Refusal) → Spent t.zeroed.counter_a x → Lighter (weight t) (tallied (with_a t) x)
+    go (Err n) h = tt
+    go (Ok c) h = omega (arith, h, one_or t.reports c.reports)
 
 b_lighter : (row : List ℕ) (values : Values Place) (old : Counters) (t : Tally) → Lighter (weight t) (tally_b row values old t)
 unfolding tally_b
@@ -81,23 +79,23 @@ b_lighter row values old t =
     go (update_one row counter_b values t.place old.counter_b old.counter_a t.zeroed.counter_b)
     (spent row counter_b values t.place old.counter_b old.counter_a t.zeroed.counter_b)
   where
-    go : (x : Counted) → Spent t.zeroed.counter_b x → Lighter (weight t) (tallied (with_b t) x)
-    go (Refused n) h = tt
-    go (NewValue c) h = omega (arith, h, one_or t.reports c.reports)
+    go : (x : Result Counter Refusal) → Spent t.zeroed.counter_b x → Lighter (weight t) (tallied (with_b t) x)
+    go (Err n) h = tt
+    go (Ok c) h = omega (arith, h, one_or t.reports c.reports)
 
 -- each in turn
-abbrev AllLighter : List (Tally → Tallied) → Type 0
+abbrev AllLighter : List (Tally → Result Tally Refusal) → Type 0
 AllLighter [] = Unit
 AllLighter (f ∷ fs) = ((t : Tally) → Lighter (weight t) (f t)) × AllLighter fs
 
-each_lighter : (fs : List (Tally → Tallied)) → AllLighter fs → (n : ℕ) (t : Tally) → weight t ≤ n → Lighter n (tally_each fs t)
+each_lighter : (fs : List (Tally → Result Tally Refusal)) → AllLighter fs → (n : ℕ) (t : Tally) → weight t ≤ n → Lighter n (tally_each fs t)
 each_lighter [] h n t l = l
 each_lighter (f ∷ fs) h n t l = go (f t) (h.0 t) (each_lighter fs h.1 n)
   where
-    go : (x : Tallied) → Lighter (weight t) x → ((u : Tally) → weight u ≤ n → Lighter n (tally_each fs u)) →
+    go : (x : Result Tally Refusal) → Lighter (weight t) x → ((u : Tally) → weight u ≤ n → Lighter n (tally_each fs u)) →
         Lighter n (and_tally x (tally_each fs))
-    go (Refused k) h rest = tt
-    go (At u) h rest = rest u (le_trans h l)
+    go (Err k) h rest = tt
+    go (Ok u) h rest = rest u (le_trans h l)
 
 counters_lighter : (row : List ℕ) (values : Values Place) (old : Counters) (zeroed : Zeroed) (at : Place) →
     Lighter (unspent zeroed.counter_a + unspent zeroed.counter_b) (update_counters row values old zeroed at)
@@ -108,7 +106,7 @@ counters_lighter row values old zeroed at =
 
 -- ---- where a machine's counters report zero, fewer may still do so
 module _ (row : List ℕ) (values : Values Place) (r : MachineRuntime) (s : Shared) (t : Tally)
-    (told : update_counters row values r.counters s.zeroed s.place ≡ At t) (reports : t.reports ≡ true) where
+    (told : update_counters row values r.counters s.zeroed s.place ≡ Ok t) (reports : t.reports ≡ true) where
   pub fewer : left (with_tally s t) < left s
   fewer =
       let l : weight t ≤ left s = subst (Lighter (left s)) told (counters_lighter row values r.counters s.zeroed s.place) in
@@ -127,7 +125,7 @@ zero_is (suc n) E r s p h = let e : suc n - 1 ≡ n = omega arith in rw e
 
 -- and it is the CounterZero transition
 pub on_report : (E : Env) (row : List ℕ) (r : MachineRuntime) (s : Shared) (t : Tally) →
-    update_counters row E.source.values r.counters s.zeroed s.place ≡ At t → t.reports ≡ true →
+    update_counters row E.source.values r.counters s.zeroed s.place ≡ Ok t → t.reports ≡ true →
     (n : ℕ) → left s ≤ n → (p : TriggerAction) →
     update_counter_at n E row r s p
     ≡ after_zero (transition_at (n - 1) E counter_zero (with_counters r t.counters) (with_tally s t) p)

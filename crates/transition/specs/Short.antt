@@ -1,4 +1,7 @@
 -- Where the short way holds, it is the machine's turn: `kept_turn`, `acted_turn`. Assumes nothing.
+use Rattle.std.specs.Prelude.{Result, Ok, Err, Option, Some, None}
+use Rattle.refusal.specs.declared.Refusal.{Refusal}
+use Rattle.machine.specs.declared.source.Draw.{Draw}
 use Rattle.std.specs.Prelude.{ℕ, List, Bool, cond, not, ◌&&◌, ◌||◌, ◌≡◌}
 use Rattle.std.proofs.Math.Bool.{true, false}
 use Rattle.std.proofs.lemmas.Bool.{false≢true}
@@ -8,34 +11,21 @@ use Rattle.std.proofs.Math.Dec.{eqb}
 use Rattle.machine.specs.Constants.{state_end, state_signal}
 use Rattle.machine.specs.State.{state_row}
 use Rattle.machine.specs.declared.source.Place.{Place}
-use Rattle.machine.specs.declared.state.Next.{Next}
-use Rattle.machine.specs.declared.state.Next.TheVariants.{State, Nothing}
 use Rattle.moves.specs.Short.{runtime_after, shared_after, move_of, scheduled_in, settle_in, settle_with, settle_from, settle, short}
 use Rattle.moves.specs.declared.settle.Moved.{Moved}
 use Rattle.moves.specs.declared.settle.Short.{Short}
 use Rattle.moves.specs.declared.settle.Short.TheVariants.{Elsewhere, Kept, Acted}
 use Rattle.samples.specs.Action.{sample_limit}
-use Rattle.dists.specs.declared.WholeDrawn.{WholeDrawn}
-use Rattle.dists.specs.declared.WholeDrawn.TheVariants.{Refused, GotWhole}
 use Rattle.steps.specs.Events.{after_transition}
 use Rattle.steps.specs.Limits.{below_action_limits}
 use Rattle.steps.specs.Transition.{Env, with_state, with_place, entered_with, enter, schedule_action, update_counters, counted, has_changed, scheduled_step, done}
 use Rattle.steps.specs.Transition.{finish, finished, after_counters, update_counter, entering, zero_transition}
-use Rattle.steps.specs.declared.Entered.TheVariants.{In}
 use Rattle.steps.specs.declared.MachineRuntime.{MachineRuntime}
-use Rattle.steps.specs.declared.Scheduled.{Scheduled}
-use Rattle.steps.specs.declared.Scheduled.TheVariants.{Refused, Set}
 use Rattle.steps.specs.declared.Shared.{Shared}
 use Rattle.steps.specs.declared.Step.{Step}
-use Rattle.steps.specs.declared.Stepped.{Stepped}
-use Rattle.steps.specs.declared.Stepped.TheVariants.{Done}
-use Rattle.steps.specs.declared.Tallied.{Tallied}
-use Rattle.steps.specs.declared.Tallied.TheVariants.{Refused, At}
 use Rattle.steps.specs.declared.Tally.{Tally}
 use Rattle.steps.specs.declared.TriggerAction.{TriggerAction}
 use Rattle.steps.specs.declared.Update.{Update}
-use Rattle.steps.specs.declared.Updated.{Updated}
-use Rattle.steps.specs.declared.Updated.TheVariants.{Ready}
 use Rattle.transition.specs.Transition.{going_at}
 
 -- the step that a move is, with the action that it leaves
@@ -48,10 +38,10 @@ step_after r s p d = record {
 }
 
 -- what an answer of the short way says of the turn x
-abbrev Says : MachineRuntime → Shared → TriggerAction → Short → Stepped → Type 0
+abbrev Says : MachineRuntime → Shared → TriggerAction → Short → Result Step Refusal → Type 0
 Says r s p Elsewhere x = x ≡ x
-Says r s p (Kept d) x = x ≡ Done (step_after r s p d)
-Says r s p (Acted q d) x = x ≡ Done (step_after r s q d)
+Says r s p (Kept d) x = x ≡ Ok (step_after r s p d)
+Says r s p (Acted q d) x = x ≡ Ok (step_after r s q d)
 
 -- no limit falls
 no_fall : (falls same x : Bool) → (falls && same) ≡ false → (falls && not (not same) && x) ≡ false
@@ -69,33 +59,33 @@ module _ (n : ℕ) (E : Env) (falls : Bool) (r : MachineRuntime) (s : Shared) (p
       abbrev u : Update
       u = counted q (with_place s at) p t
 
-      scheduled : (below : Bool) (x : Scheduled) →
+      scheduled : (below : Bool) (x : Result (Draw TriggerAction) Refusal) →
           Says r s p (cond below (scheduled_in q t x) (Kept (move_of q t t.place)))
           (after_transition E falls
           (cond below
           (scheduled_step u (has_changed r.current_state u) x)
           (done u.runtime u.shared u.action (has_changed r.current_state u))))
-      scheduled true (Refused k) = refl
+      scheduled true (Err k) = refl
       scheduled true (Set a next) = rw (no_fall falls (eqb r.current_state state) (not (eqb state state_end)) still)
       scheduled false x = rw (no_fall falls (eqb r.current_state state) (not (eqb state state_end)) still)
 
-      reported : (reports : Bool) (zero : Updated) →
+      reported : (reports : Bool) (zero : Result Update Refusal) →
           Says r s p (cond reports Elsewhere (settle_in row E.source.values E.context q t))
           (after_transition E falls
           (finished row E.source.values r.current_state (below_action_limits E.context q row)
-          (cond reports zero (Ready u))))
+          (cond reports zero (Ok u))))
       unfolding settle_in finish
       reported true zero = refl
       reported false zero =
           scheduled (below_action_limits E.context q row) (schedule_action row E.source.values t.place)
 
-    tallied : (at : Place) (x : Tallied) →
+    tallied : (at : Place) (x : Result Tally Refusal) →
         Says r s p (settle_with row E.source.values E.context q x)
         (after_transition E falls
         (finished row E.source.values r.current_state (below_action_limits E.context q row)
         (after_counters (zero_transition n E) E q (with_place s at) p x)))
-    tallied at (Refused k) = refl
-    tallied at (At t) = reported at t t.reports _
+    tallied at (Err k) = refl
+    tallied at (Ok t) = reported at t t.reports _
 
     entered : (at : Place) →
         Says r s p (settle_from row E.source.values E.context s.zeroed (In q at))
@@ -104,11 +94,11 @@ module _ (n : ℕ) (E : Env) (falls : Bool) (r : MachineRuntime) (s : Shared) (p
     entered at = tallied at (update_counters row E.source.values r.counters s.zeroed at)
 
   -- another state, by its limit
-  drawn : (row : List ℕ) (next : ℕ) (x : WholeDrawn) → (falls && eqb r.current_state next) ≡ false →
+  drawn : (row : List ℕ) (next : ℕ) (x : Result (Draw ℕ) Refusal) → (falls && eqb r.current_state next) ≡ false →
       Says r s p (settle_from row E.source.values E.context s.zeroed (entered_with r next x))
       (after_transition E falls (entering (zero_transition n E) E row r.current_state s p (entered_with r next x)))
-  drawn row next (Refused k) h = refl
-  drawn row next (GotWhole w) h = entered row next w.value h w.at
+  drawn row next (Err k) h = refl
+  drawn row next (Ok w) h = entered row next w.value h w.at
 
   settled : (row : List ℕ) (next : ℕ) (same : Bool) → eqb r.current_state next ≡ same → (falls && same) ≡ false →
       Says r s p
@@ -126,13 +116,13 @@ module _ (n : ℕ) (E : Env) (falls : Bool) (r : MachineRuntime) (s : Shared) (p
   settled row next false e h =
       drawn row next (sample_limit row E.source.values s.place) (rw e h)
 
-  says : (next : Next) →
+  says : (next : Option ℕ) →
       Says r s p (short E.rows E.source.values E.context falls next r s) (after_transition E falls (going_at n E next r s p))
   unfolding short going_at settle enter
-  says Nothing = refl
-  says (State next) = by (eqb next state_end) (eqb next state_signal) (falls && eqb r.current_state next) _ _ refl
+  says None = refl
+  says (Some next) = by (eqb next state_end) (eqb next state_signal) (falls && eqb r.current_state next) _ _ refl
     where
-      by : (ends signals low : Bool) (x y : Stepped) → (falls && eqb r.current_state next) ≡ low →
+      by : (ends signals low : Bool) (x y : Result Step Refusal) → (falls && eqb r.current_state next) ≡ low →
           Says r s p
           (cond (ends || signals || low) Elsewhere (settle (state_row E.rows next) E.source.values E.context next r s))
           (after_transition E falls
@@ -144,11 +134,11 @@ module _ (n : ℕ) (E : Env) (falls : Bool) (r : MachineRuntime) (s : Shared) (p
       by false false true x y e = refl
       by false false false x y e = settled (state_row E.rows next) next (eqb r.current_state next) refl e
 
-  pub kept_turn : (next : Next) {d : Moved} → short E.rows E.source.values E.context falls next r s ≡ Kept d →
-      after_transition E falls (going_at n E next r s p) ≡ Done (step_after r s p d)
+  pub kept_turn : (next : Option ℕ) {d : Moved} → short E.rows E.source.values E.context falls next r s ≡ Kept d →
+      after_transition E falls (going_at n E next r s p) ≡ Ok (step_after r s p d)
   kept_turn next e = rw e at (says next)
 
-  pub acted_turn : (next : Next) {a : TriggerAction} {d : Moved} →
+  pub acted_turn : (next : Option ℕ) {a : TriggerAction} {d : Moved} →
       short E.rows E.source.values E.context falls next r s ≡ Acted a d →
-      after_transition E falls (going_at n E next r s p) ≡ Done (step_after r s a d)
+      after_transition E falls (going_at n E next r s p) ≡ Ok (step_after r s a d)
   acted_turn next e = rw e at (says next)

@@ -9,7 +9,7 @@ use Rattle.machine.specs.Constants.{machine_max}
 use Rattle.steps.specs.Transition.{no_action}
 use Rattle.steps.specs.Events.{Tables, Run, each, num_machines, kind_at, machine_at, event_turn, signals}
 use Rattle.steps.specs.Framework.{begin, trigger_events, accepted, batch}
-use Rattle.steps.specs.Runs.{Ok, ok_any, ok_then, ok_map, each_ok, batch_ok}
+use Rattle.steps.specs.Runs.{OutcomeOk, ok_any, ok_then, ok_map, each_ok, batch_ok}
 use Rattle.steps.specs.Machines.{none_pending}
 use Rattle.steps.specs.Budget.{Ledger, count, counted, returned, returns_padding, packets, Spends}
 use Rattle.steps.proofs.Budget.Invariant.{nobody, counted_grows, Inv, inv_acts, inv_end}
@@ -56,7 +56,7 @@ module _ (S : Setup) where
   -- ---- the events of a batch
   events-ok : (D : Source Place) (tells : Telling D) (es : List ℕ) (l : Ledger) (x : Run) → Live S l x → Spends l es
       → packets (counted l es) ≤ 2 ^ 53
-      → Ok Told (Live S (counted l es)) (each (event_turn tables D es) (length es / 2) 0 x)
+      → OutcomeOk Told (Live S (counted l es)) (each (event_turn tables D es) (length es / 2) 0 x)
   events-ok D tells es l x v s small =
       ok_map Told (λ y. (j : ℕ) × P zero j y) (Live S (counted l es))
       (each (event_turn tables D es) (length es / 2) 0 x)
@@ -73,7 +73,7 @@ module _ (S : Setup) where
       none : (n : ℕ) → 0 + n ≡ n
       none n = omega arith
 
-      step : (n i : ℕ) (y : Run) → P (suc n) i y → Ok Told (P n (i + 1)) (event_turn tables D es i y)
+      step : (n i : ℕ) (y : Run) → P (suc n) i y → OutcomeOk Told (P n (i + 1)) (event_turn tables D es i y)
       step n i y (m, w, t, e, k) =
           let words = event_words es i (omega arith) in
           let t' = subst (Spends m) words t in
@@ -121,7 +121,7 @@ module _ (S : Setup) where
 
   runs : (D : Source Place) (tells : Telling D) (time : ℕ) (es : List ℕ) (l : Ledger) (fw : Framework) → Rest l fw → Spends l es
       → packets (counted l es) ≤ 2 ^ 53
-      → Ok Told (Live S (counted l es)) (trigger_events tables D time es fw)
+      → OutcomeOk Told (Live S (counted l es)) (trigger_events tables D time es fw)
   unfolding trigger_events
   runs D tells time es l fw r s small =
       ok_then Told (Live S (counted l es)) (Live S (counted l es))

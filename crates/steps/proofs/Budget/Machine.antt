@@ -28,7 +28,7 @@ abbrev pub Told : ℕ → Type 0
 Told n = 0 < n
 
 abbrev pub kept : ℕ → ℕ → Type 0 → Kept
-kept p n W = record { Refusal = Told; Machine = Has p n; Action = May W; Signal = λ pending. Unit }
+kept p n W = record { RefusedBy = Told; Machine = Has p n; Action = May W; Signal = λ pending. Unit }
 
 -- ---- a SendPadding that is below its limits passed below_limit_padding
 judged : (c : Context) (r : MachineRuntime) (row : List ℕ) → below_action_limits c r row ≡ true

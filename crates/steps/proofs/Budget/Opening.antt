@@ -23,7 +23,7 @@ use Rattle.tables.proofs.Valid.Laws.{zero_valid}
 use Rattle.tables.specs.Machine.{tables_refusal}
 use Rattle.steps.specs.Events.{Tables, Run, no_runtime, runtime_at, machine_word}
 use Rattle.steps.specs.Framework.{rows_in, open_run, open_refusal, opening}
-use Rattle.steps.specs.Runs.{stored_all, Ok, ok_any, none_of, opening_ok}
+use Rattle.steps.specs.Runs.{stored_all, OutcomeOk, ok_any, none_of, opening_ok}
 use Rattle.steps.specs.Draws.{by_told}
 use Rattle.steps.specs.Machines.{comes_in, opening_kept}
 use Rattle.steps.specs.Budget.{empty}
@@ -108,7 +108,7 @@ module _ (S : Setup) (blocking : Float) (time : ℕ) (source : Source Place) (te
   Counts : Run → Type 0
   Counts x = Frame S empty x.framework × ((i : ℕ) → Has 0 0 (runtime_at x.framework i))
 
-  run_ok : Ok Told Counts (open_run tables F blocking time source)
+  run_ok : OutcomeOk Told Counts (open_run tables F blocking time source)
   unfolding Counts
   run_ok =
       opening_kept Told Counts tables source (by_told source tells) comes F blocking time (
@@ -122,7 +122,7 @@ module _ (S : Setup) (blocking : Float) (time : ℕ) (source : Source Place) (te
         none_sent machine_max,
       )
     where
-      comes : (i limit : ℕ) (at : Place) (x : Run) → Counts x → Ok Told Counts (comes_in tables i limit at x)
+      comes : (i limit : ℕ) (at : Place) (x : Run) → Counts x → OutcomeOk Told Counts (comes_in tables i limit at x)
       comes i limit at x c = (
         record {
           machines = c.0.machines;

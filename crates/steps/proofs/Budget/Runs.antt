@@ -2,6 +2,10 @@
 -- keeps the invariant, and x's counts are the ledger's. In an event's turns the machines that still
 -- wait have the ledger's counts from before it and the others those from after it: `Mid`. A machine's
 -- own turn changes its own counts and action alone. Assumes nothing.
+use Rattle.std.specs.Prelude.{Ok}
+use Rattle.std.specs.Prelude.{Result, Err}
+use Rattle.refusal.specs.declared.Refusal.{Refusal}
+use Rattle.steps.specs.declared.Step.{Step}
 use Rattle.std.specs.Prelude.{ℕ, suc, ◌+◌, ◌^◌, ◌≤◌, ◌<◌, Bool, true, ◌⊎◌, ◌≡◌, T, length, get_or, set}
 use Rattle.std.proofs.Math.Decide.{ℕ_discrete, dec_lt}
 use Rattle.std.proofs.Common.{arith, inl, inr, sym, ◌∙◌, subst, length-set, get_or-set_same, get_or-set_other}
@@ -9,7 +13,7 @@ use Rattle.machine.specs.Constants.{machine_max}
 use Rattle.steps.specs.Limits.{below_limit_padding}
 use Rattle.steps.specs.Transition.{no_action}
 use Rattle.steps.specs.Events.{Run, num_machines, no_runtime, runtime_at, with_runtime, context_of, stored}
-use Rattle.steps.specs.Runs.{Ok}
+use Rattle.steps.specs.Runs.{OutcomeOk}
 use Rattle.steps.specs.Walk.{Stays}
 use Rattle.steps.specs.Budget.{Ledger, packets, allowance, fraction}
 use Rattle.steps.proofs.Budget.Invariant.{heard, Acts, Inv, inv_acts}
@@ -18,8 +22,6 @@ use Rattle.steps.proofs.Budget.Machine.{is_padding, Has, Told, kept}
 use Rattle.steps.specs.declared.MachineRuntime.{MachineRuntime}
 use Rattle.steps.specs.declared.Framework.{Framework}
 use Rattle.steps.specs.declared.TriggerAction.{TriggerAction}
-use Rattle.steps.specs.declared.Stepped.{Stepped}
-use Rattle.steps.specs.declared.Stepped.TheVariants.{Refused, Done}
 
 module _ (S : Setup) where
   open S use {tables, F, few}
@@ -84,10 +86,10 @@ module _ (S : Setup) where
 
   -- ---- a machine's step goes back into the run
   pub store : (l l' : Ledger) (a : ℕ → Bool) (k n : ℕ) (x : Run) → Mid l l' a k (suc n) x → k < M
-      → (s : Stepped)
-      → Stays (kept (l'.own k) (heard l' k) (Why l' a k)) s → Ok Told (Mid l l' a (k + 1) n) (stored x k s)
-  store l l' a k n x m h (Refused j) o = o
-  store l l' a k n x m h (Done d) o = record {
+      → (s : Result Step Refusal)
+      → Stays (kept (l'.own k) (heard l' k) (Why l' a k)) s → OutcomeOk Told (Mid l l' a (k + 1) n) (stored x k s)
+  store l l' a k n x m h (Err j) o = o
+  store l l' a k n x m h (Ok d) o = record {
     frame = record {
       machines = m.frame.machines;
       frac = m.frame.frac;

@@ -12,7 +12,7 @@ use Rattle.machine.specs.Event.{normal_sent, padding_sent, blocking_begin, block
 use Rattle.steps.specs.Transition.{Env, no_action, transition}
 use Rattle.steps.specs.Events.{Run, Outcome, each, num_machines, runtime_at, env_of, blocked_now, totals_after, with_totals, with_blocking, accounted, limit_falls, turn, machine_turn, account, first_for, turns_for, process_event, signal_machine, signals}
 use Rattle.steps.specs.Limits.{blocking_on}
-use Rattle.steps.specs.Runs.{either, Ok, ok_map, each_ok, turn_range, no_turn, signals_kept}
+use Rattle.steps.specs.Runs.{either, OutcomeOk, ok_map, each_ok, turn_range, no_turn, signals_kept}
 use Rattle.steps.specs.Walk.{transition_kept, turn_kept}
 use Rattle.steps.specs.Budget.{Ledger, count, packets}
 use Rattle.steps.proofs.Budget.Invariant.{heard, kind_cases, inv_owned, inv_count}
@@ -76,7 +76,7 @@ module _ (S : Setup) where
   pub event_ok : (D : Source Place) (tells : Telling D) (l : Ledger) (kind machine : ℕ) (x : Run) → Live S l x
       → (kind ≡ padding_sent → T (l.held machine))
       → packets (count l kind machine) ≤ 2 ^ 53
-      → Ok Told (Live S (count l kind machine)) (process_event tables D kind machine x)
+      → OutcomeOk Told (Live S (count l kind machine)) (process_event tables D kind machine x)
   unfolding process_event
   event_ok D tells l kind machine x (v, s) h small =
       ok_map Told (λ y. (j : ℕ) × P zero j y) (Live S l') (each f n (first_for kind machine) (account kind x))
@@ -119,7 +119,7 @@ module _ (S : Setup) where
         acts = λ i t. (v.actor i t, inl t);
       }
 
-      step : (n k : ℕ) (y : Run) → P (suc n) k y → Ok Told (P n (k + 1)) (f k y)
+      step : (n k : ℕ) (y : Run) → P (suc n) k y → OutcomeOk Told (P n (k + 1)) (f k y)
       step n k y (r, m) =
           let mine = r k (le_refl k) (omega arith) in
           let E = env_of tables D y.framework k in
@@ -141,7 +141,7 @@ module _ (S : Setup) where
 
   -- ---- the signals
   signal-ok : (D : Source Place) (tells : Telling D) (l : Ledger) (i : ℕ) → i < machines_of S → packets l ≤ 2 ^ 53 → (x : Run)
-      → Live S l x → Ok Told (Live S l) (signal_machine tables D i x)
+      → Live S l x → OutcomeOk Told (Live S l) (signal_machine tables D i x)
   unfolding signal_machine
   signal-ok D tells l i h small x (v, s) =
       ok_map Told (Mid S l l (sends S x) (i + 1) 0) (Live S l) (signal_machine tables D i x)
@@ -167,7 +167,7 @@ module _ (S : Setup) where
       }
 
   pub signals_ok : (D : Source Place) (tells : Telling D) (l : Ledger) → packets l ≤ 2 ^ 53 → (x : Run) → Live S l x
-      → Ok Told (Live S l) (signals tables D x)
+      → OutcomeOk Told (Live S l) (signals tables D x)
   signals_ok D tells l small =
       signals_kept Told (Live S l) tables D (machines_of S) (λ x v. num_is S l x.framework v.1.frame)
       (λ x v. (v.0, record { frame = v.1.frame; room = v.1.room; at = v.1.at }))

@@ -1,5 +1,6 @@
 -- The words that a run takes: never more than there are, and the run is the same whatever words follow those that it took. First of
 -- every tree of questions, then of the runs of batches and openings. Assumes nothing.
+use Rattle.refusal.specs.declared.Refusal.TheVariants.{NoDraw}
 use Rattle.std.specs.Prelude.{ℕ, suc, ◌+◌, ◌≤◌, ◌<◌, Bool, true, false, cond, List, [], ◌∷◌, ◌++◌, ◌≡◌, refl, ltb, Float, length, get_or, drop}
 use Rattle.std.proofs.Math.Decide.{dec_le}
 use Rattle.std.proofs.Common.{arith, ap, subst, length-drop, length-append, lt-ltb, ltb-true}
@@ -11,7 +12,7 @@ use Rattle.machine.specs.Words.{chance_of, value_of, word_chance, word_value, wo
 use Rattle.machine.specs.declared.source.Place.{Place}
 use Rattle.steps.specs.Events.{Tables, Run, Outcome, go}
 use Rattle.steps.specs.Framework.{open_run, trigger_events}
-use Rattle.steps.specs.Runs.{Ok}
+use Rattle.steps.specs.Runs.{OutcomeOk}
 use Rattle.steps.specs.Play.{Play, ends, attempts, ask_chance, ask_uniform, ask_outside, after, run, Counts, Plays}
 use Rattle.steps.specs.Play.Runs.{Running, outcome}
 use Rattle.steps.specs.Words.Sound.{Sound}
@@ -38,7 +39,7 @@ chance_between ws at = by (ltb at.value_at (length ws)) (ltb-true at.value_at (l
   where
     by : (b : Bool) → (b ≡ true → at.value_at < length ws)
         → Between (at.value_at + 1) (length ws)
-        (cond b (got (chance_of (get_or ws at.value_at 0)) (place at.chance_at (at.value_at + 1))) (no 16 at))
+        (cond b (got (chance_of (get_or ws at.value_at 0)) (place at.chance_at (at.value_at + 1))) (no NoDraw at))
     by true h = let l = h refl in omega (arith, l)
     by false h = tt
 
@@ -109,7 +110,7 @@ module _ (pre post post' : List ℕ) where
     where
       by : (b : Bool)
           → Near (length pre)
-          (cond b (got (chance_of (get_or (pre ++ post) at.value_at 0)) (place at.chance_at (at.value_at + 1))) (no 16 at))
+          (cond b (got (chance_of (get_or (pre ++ post) at.value_at 0)) (place at.chance_at (at.value_at + 1))) (no NoDraw at))
           (word_chance (pre ++ post') at)
       by true = λ l.
           let inside : at.value_at < length pre = omega (arith, l) in
@@ -175,11 +176,11 @@ taken x = x.shared.place.value_at
 
 -- at most n words were taken
 abbrev pub TakesMost : ℕ → Outcome → Type 0
-TakesMost n = Ok (λ k. Unit) (λ x. taken x ≤ n)
+TakesMost n = OutcomeOk (λ k. Unit) (λ x. taken x ≤ n)
 
 -- a run that took at most n words is the other run too
 abbrev pub SameWithin : ℕ → Outcome → Outcome → Type 0
-SameWithin n o o' = Ok (λ k. Unit) (λ x. taken x ≤ n → o' ≡ go x) o
+SameWithin n o o' = OutcomeOk (λ k. Unit) (λ x. taken x ≤ n → o' ≡ go x) o
 
 module _ (S : Type 0) (Post : ℕ → Running → Counts → Counts → Type 0) (f : Source Place → Place → Outcome) (P : Plays S outcome Post f) where
   takes-most : (ws : List ℕ) → TakesMost (length ws) (f (words ws) front)

@@ -1,6 +1,7 @@
 -- The two tapes worked out from words: the chances and values that the steps of a batch or an opening are given by the words, in the
 -- order in which they ask. On sound tables the steps run on these tapes as on the words and use them up, and stop by 16 alone.
 -- Assumes nothing.
+use Rattle.refusal.specs.Refusal.{number}
 use Rattle.std.specs.Prelude.{ℕ, ◌+◌, ◌*◌, ◌/◌, ◌≤◌, true, List, ◌≡◌, refl, Float, length}
 use Rattle.std.proofs.Common.{arith, ap, ◌∙◌}
 use Rattle.machine.specs.Source.{Drawn, no, got, Source, place, tapes}
@@ -9,7 +10,7 @@ use Rattle.machine.specs.declared.source.Place.{Place}
 use Rattle.steps.specs.Transition.{with_place}
 use Rattle.steps.specs.Events.{Tables, Outcome, stop, go, and_then, each, num_machines, event_turn, signals}
 use Rattle.steps.specs.Framework.{none_zeroed, no_actions, new_framework, open_turn, rows_in, open_run, kinds_fit, trigger_events}
-use Rattle.steps.specs.Runs.{Ok}
+use Rattle.steps.specs.Runs.{OutcomeOk}
 use Rattle.steps.specs.Play.{Counts, run, Plays}
 use Rattle.steps.specs.Play.Runs.{Running, run_of, outcome, beginning, Costs, batch_plays, open_plays}
 use Rattle.steps.specs.Play.Laws.{Given, worked_out, Honest, retold}
@@ -32,7 +33,7 @@ at_place (stop n) at = stop n
 at_place (go x) at = go (record { framework = x.framework; actions = x.actions; shared = with_place x.shared at })
 
 abbrev pub Stops16 : Outcome → Type 0
-Stops16 = Ok (λ n. n ≡ 16) (λ x. Unit)
+Stops16 = OutcomeOk (λ n. n ≡ 16) (λ x. Unit)
 
 -- ---- any run that is a play, on an honest source
 module _ (S : Type 0) (Post : ℕ → Running → Counts → Counts → Type 0) (f : Source Place → Place → Outcome) (P : Plays S outcome Post f)
@@ -56,7 +57,7 @@ module _ (S : Type 0) (Post : ℕ → Running → Counts → Counts → Type 0) 
   stops-16 = rw (P.same D front) (by (run D P.play front) (only_16 D honest P.play (P.served sound) front))
     where
       by : (d : Drawn Place Running) → Only16 d → Stops16 (outcome d)
-      by (no n s) h = h
+      by (no r s) h = ap number h
       by (got x s) h = tt
 
 -- ---- a batch

@@ -1,5 +1,10 @@
 -- A call's run over all machines is a play: an event, the events of a batch, the signals, and the opening. With their costs: a batch
 -- of n events over M machines makes at most n × (M + 1) + M attempts and two by CounterZero. Assumes nothing.
+use Rattle.refusal.specs.Refusal.{number}
+use Rattle.machine.specs.Source.{draw_of}
+use Rattle.std.specs.Prelude.{Result}
+use Rattle.refusal.specs.declared.Refusal.{Refusal}
+use Rattle.steps.specs.declared.Step.{Step}
 use Prim.Native.Nat.{ℕ, zero, suc, ◌+◌, ◌-◌, ◌*◌, ◌/◌, ◌≤◌, ◌<◌}
 use Rattle.std.proofs.Common.{arith, true≢false, sym, ap, ◌∙◌}
 use Rattle.std.proofs.Math.Decide.{ℕ_discrete}
@@ -20,13 +25,12 @@ use Rattle.steps.specs.Transition.{no_action}
 use Rattle.steps.specs.Events.{Tables, Run, Outcome, stop, go, and_then, each, num_machines, runtime_at, with_runtime, machine_word, context_of, states_of, stored, accounted, blocked_now, limit_falls, machine_turn, first_for, turns_for, own_only, process_event, kind_at, machine_at, event_turn, signal_machine, signal_turn, last_signal, signals}
 use Rattle.steps.specs.Framework.{none_zeroed, no_actions, with_time, new_runtime, start_limit, opened_with, open_machine, opened, open_turn, kinds_fit}
 use Rattle.steps.specs.Play.{Counts, one, RowServed, Plays, plays_end, plays_cond, plays_weaken, plays_on, plays_then}
-use Rattle.steps.specs.Play.Samples.{whole_drawn, entered, Spent, limit_plays}
+use Rattle.steps.specs.Play.Samples.{Spent, limit_plays}
 use Rattle.steps.specs.Play.Steps.{Flags, shared, Stepping, stepped, Took, Attempt, Ordinary, transition_plays, turn_plays}
 use Rattle.steps.specs.declared.MachineRuntime.{MachineRuntime}
 use Rattle.steps.specs.declared.Context.{Context}
 use Rattle.steps.specs.declared.Framework.{Framework}
 use Rattle.steps.specs.declared.TriggerAction.{TriggerAction}
-use Rattle.steps.specs.declared.Stepped.{Stepped}
 
 -- ---- a run without its place
 pub record Running : Type 0 where
@@ -38,7 +42,7 @@ abbrev pub run_of : Running → Place → Run
 run_of x at = record { framework = x.framework; actions = x.actions; shared = shared x.flags at }
 
 abbrev pub outcome : Drawn Place Running → Outcome
-outcome (no n at) = stop n
+outcome (no r at) = stop (number r)
 outcome (got x at) = go (run_of x at)
 
 -- a batch begins
@@ -96,7 +100,7 @@ module _ (Sound : Type 0) (M : ℕ) where
       flags = d.flags;
     }
 
-    stored-plays : (x : Running) (j : ℕ) (Post : ℕ → Stepping → Counts → Counts → Type 0) (f : Source Place → Place → Stepped)
+    stored-plays : (x : Running) (j : ℕ) (Post : ℕ → Stepping → Counts → Counts → Type 0) (f : Source Place → Place → Result Step Refusal)
         → Plays Sound stepped Post f
         → Plays Sound outcome (λ i y k k'. Has M x → Has M y × ((d : Stepping) × (d.flags ≡ y.flags) × Post i d k k'))
         (λ D s. stored (run_of x s) j (f D s))
@@ -425,7 +429,7 @@ module _ (Sound : Type 0) (M : ℕ) where
 
 -- ---- the opening: a value for each machine at the most
 module _ (Sound : Type 0) (T : Tables) (served : Sound → (i state : ℕ) → RowServed (state_row (states_of T i) state)) where
-  open-machine-plays : (j time : ℕ) → Plays Sound entered (λ i r. Spent 1) (λ D s. open_machine T D.values j time s)
+  open-machine-plays : (j time : ℕ) → Plays Sound draw_of (λ i r. Spent 1) (λ D s. open_machine T D.values j time s)
   unfolding open_machine start_limit
   open-machine-plays j time = by (eqb (action_of row) 0)
     where
@@ -435,20 +439,20 @@ module _ (Sound : Type 0) (T : Tables) (served : Sound → (i state : ℕ) → R
       allowed : ℕ
       allowed = machine_word T.machines j allowed_blocked_microsec
 
-      by : (b : Bool) → Plays Sound entered (λ i r. Spent 1)
+      by : (b : Bool) → Plays Sound draw_of (λ i r. Spent 1)
           (λ D s. opened_with time allowed (cond b (got_whole 0 s) (sample_limit row D.values s)))
-      by true = plays_end Sound entered _ _ (new_runtime time allowed 0) (λ D s. refl) (λ i k. omega arith)
+      by true = plays_end Sound draw_of _ _ (new_runtime time allowed 0) (λ D s. refl) (λ i k. omega arith)
       by false =
-          plays_then Sound whole_drawn (λ i a. Spent 1) entered (λ a i r. Spent 0) _
+          plays_then Sound draw_of (λ i a. Spent 1) draw_of (λ a i r. Spent 0) _
           (λ D s. sample_limit row D.values s) (λ D. opened_with time allowed)
           (limit_plays Sound row (λ s. served s j 0)) (λ D n s. refl)
-          (λ a. plays_end Sound entered _ _ (new_runtime time allowed a) (λ D s. refl) (λ i k. omega arith))
+          (λ a. plays_end Sound draw_of _ _ (new_runtime time allowed a) (λ D s. refl) (λ i k. omega arith))
           (λ i a r k k' k'' h m. omega (arith, h, m))
 
   open-turn-plays : (j : ℕ) (x : Running)
       → Plays Sound outcome (λ i y k k'. k'.values ≤ k.values + 1) (λ D s. open_turn T D j (run_of x s))
   open-turn-plays j x =
-      plays_on Sound entered (λ i r. Spent 1) outcome (λ r i y. Spent 0) _
+      plays_on Sound draw_of (λ i r. Spent 1) outcome (λ r i y. Spent 0) _
       (λ D s. open_machine T D.values j x.framework.current_time s)
       (λ D s. opened j (run_of x s)) (λ r D s. go (run_of (with r) s))
       (open-machine-plays j x.framework.current_time) (λ D n s₀ s. refl) (λ D r s₀ s. refl)

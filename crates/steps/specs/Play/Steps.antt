@@ -1,5 +1,9 @@
 -- One machine's steps are plays, definition by definition, with what each costs: an attempt takes at most one chance and five values,
 -- and a CounterZero spends a counter's one report. Assumes nothing.
+use Rattle.machine.specs.Source.{draw_of}
+use Rattle.std.specs.Prelude.{Result, Ok, Err, Option, Some, None}
+use Rattle.refusal.specs.declared.Refusal.{Refusal}
+use Rattle.steps.specs.declared.Step.{Step}
 use Prim.Native.Nat.{ℕ, zero, suc, ◌+◌, ◌-◌, ◌*◌, ◌≤◌}
 use Rattle.std.proofs.Common.{arith, true≢false}
 use Rattle.std.proofs.Math.Bool.{Bool, true, false, not}
@@ -8,27 +12,21 @@ use Rattle.std.proofs.Math.Path.{refl}
 use Rattle.std.proofs.Math.Dec.{eqb}
 use Rattle.machine.specs.Constants.{state_end, state_signal, counter_num}
 use Rattle.machine.specs.Event.{event_of, limit_reached, counter_zero, signal}
-use Rattle.machine.specs.Source.{Drawn, no, got, Source, chance_drawn, chance_draw}
+use Rattle.machine.specs.Source.{Drawn, no, got, Source, chance_draw}
 use Rattle.machine.specs.State.{state_row, first_of, count_of, sample_state}
 use Rattle.machine.specs.declared.source.Place.{Place}
-use Rattle.machine.specs.declared.state.Next.{Next}
-use Rattle.machine.specs.declared.state.Next.TheVariants.{State, Nothing}
 use Rattle.samples.specs.Action.{has_limit}
 use Rattle.steps.specs.Limits.{below_action_limits}
 use Rattle.steps.specs.Transition.{Env, env, no_action, with_state, with_counters, raise, enter, schedule_action, update_counters, scheduled_step, finish, finished, after_zero, after_counters, update_counter, entering, going, drawn, choosing, transition_by, zero_transition, transition, decrement_limit}
 use Rattle.steps.specs.Events.{counted_by, after_transition, turn}
 use Rattle.steps.specs.Play.{attempts, ask_chance, ends, after, Counts, one, attempted, leaves_map, RowServed, Plays, plays_end, plays_cond, plays_weaken, plays_on, plays_then}
-use Rattle.steps.specs.Play.Samples.{entered, scheduled, Tallying, tally_drawn, Spent, unreported, owed, Tallies, untold, enter_plays, schedule_plays, counters_plays}
+use Rattle.steps.specs.Play.Samples.{Tallying, tally_drawn, Spent, unreported, owed, Tallies, untold, enter_plays, schedule_plays, counters_plays}
 use Rattle.steps.specs.declared.MachineRuntime.{MachineRuntime}
 use Rattle.steps.specs.declared.Context.{Context}
 use Rattle.steps.specs.declared.Shared.{Shared}
 use Rattle.steps.specs.declared.Zeroed.{Zeroed}
 use Rattle.steps.specs.declared.TriggerAction.{TriggerAction}
-use Rattle.steps.specs.declared.Stepped.{Stepped}
-use Rattle.steps.specs.declared.Stepped.TheVariants.{Refused, Done}
 use Rattle.steps.specs.declared.Update.{Update}
-use Rattle.steps.specs.declared.Updated.{Updated}
-use Rattle.steps.specs.declared.Updated.TheVariants.{Refused, Ready}
 
 -- ---- what a call shares, without its place
 pub record Flags : Type 0 where
@@ -58,9 +56,9 @@ update u at = record {
   state_changed = u.changed;
 }
 
-abbrev updated : Drawn Place Upd → Updated
-updated (no n at) = Refused n
-updated (got u at) = Ready (update u at)
+abbrev updated : Drawn Place Upd → Result Update Refusal
+updated (no n at) = Err n
+updated (got u at) = Ok (update u at)
 
 pub record Stepping : Type 0 where
   pub runtime : MachineRuntime
@@ -68,9 +66,9 @@ pub record Stepping : Type 0 where
   pub action : TriggerAction
   pub changed : Bool
 
-abbrev pub stepped : Drawn Place Stepping → Stepped
-stepped (no n at) = Refused n
-stepped (got d at) = Done (record { runtime = d.runtime; shared = shared d.flags at; action = d.action; changed = d.changed })
+abbrev pub stepped : Drawn Place Stepping → Result Step Refusal
+stepped (no n at) = Err n
+stepped (got d at) = Ok (record { runtime = d.runtime; shared = shared d.flags at; action = d.action; changed = d.changed })
 
 -- ---- costs
 -- c chances and v values beside those of further attempts, each of which spends a report
@@ -111,7 +109,7 @@ module _ (Sound : Type 0) (rows transitions : List ℕ) (context : Context)
   E D = env rows transitions D context
 
   abbrev Steps : Type 0
-  Steps = Source Place → MachineRuntime → Shared → TriggerAction → Stepped
+  Steps = Source Place → MachineRuntime → Shared → TriggerAction → Result Step Refusal
 
   -- a transition by event e is a play, from every machine
   abbrev Transits : ℕ → Steps → Type 0
@@ -124,7 +122,7 @@ module _ (Sound : Type 0) (rows transitions : List ℕ) (context : Context)
 
   -- a step that asks nothing
   still : (c v : ℕ) (r : MachineRuntime) (F F' : Flags) (p : TriggerAction) (changed : Bool) → spare F' ≡ spare F
-      → Plays Sound stepped (λ i. StepsBy c v F) (λ D s. Done (record { runtime = r; shared = shared F' s; action = p; changed = changed }))
+      → Plays Sound stepped (λ i. StepsBy c v F) (λ D s. Ok (record { runtime = r; shared = shared F' s; action = p; changed = changed }))
   still c v r F F' p changed e =
       plays_end Sound stepped (λ i. StepsBy c v F) _ (record { runtime = r; flags = F'; action = p; changed = changed }) (λ D s. refl)
       (λ i k. omega arith)
@@ -176,10 +174,10 @@ module _ (Sound : Type 0) (rows transitions : List ℕ) (context : Context)
     unfolding finish
     finish-plays row served' before below u =
         plays_cond Sound stepped (λ i. StepsBy 0 2 u.flags) _ _ (u.allow && below)
-        (λ e. plays_on Sound scheduled (λ i p. Spent 2) stepped
+        (λ e. plays_on Sound draw_of (λ i p. Spent 2) stepped
         (λ p i d k k'. (d.flags ≡ u.flags) × Spent 0 k k') (λ i. StepsBy 0 2 u.flags)
         (λ D s. schedule_action row D.values s) (λ D s. scheduled_step (update u s) changed)
-        (λ p D s. Done (record { runtime = u.runtime; shared = shared u.flags s; action = p; changed = changed }))
+        (λ p D s. Ok (record { runtime = u.runtime; shared = shared u.flags s; action = p; changed = changed }))
         (schedule_plays Sound row served') (λ D n s₀ s. refl) (λ D p s₀ s. refl)
         (λ p. plays_end Sound stepped _ _ (record { runtime = u.runtime; flags = u.flags; action = p; changed = changed })
         (λ D s. refl) (λ i k. (refl, omega arith)))
@@ -199,15 +197,15 @@ module _ (Sound : Type 0) (rows transitions : List ℕ) (context : Context)
         (update-plays row served' r F p) (λ D n s. refl) (finish-plays row served' before (below_action_limits context r row))
         (λ i u d k k' k'' h m. omega arith)
 
-    going-plays : (r : MachineRuntime) (F : Flags) (p : TriggerAction) (x : Next)
+    going-plays : (r : MachineRuntime) (F : Flags) (p : TriggerAction) (x : Option ℕ)
         → Plays Sound stepped (λ i. StepsBy 0 5 F) (λ D s. going (z D) (E D) r (shared F s) p x)
-    going-plays r F p Nothing = still 0 5 r F F p false refl
-    going-plays r F p (State next) =
+    going-plays r F p None = still 0 5 r F F p false refl
+    going-plays r F p (Some next) =
         plays_cond Sound stepped (λ i. StepsBy 0 5 F) _ _ (eqb next state_end)
         (λ e. still 0 5 (with_state r state_end r.state_limit) F F p true refl)
         (λ e. plays_cond Sound stepped (λ i. StepsBy 0 5 F) _ _ (eqb next state_signal)
         (λ e. still 0 5 r F (record { pending = raise F.pending context.machine; zeroed = F.zeroed }) p false refl)
-        (λ e. plays_on Sound entered (λ i r. Spent 1) stepped (λ r i. StepsBy 0 4 F) (λ i. StepsBy 0 5 F)
+        (λ e. plays_on Sound draw_of (λ i r. Spent 1) stepped (λ r i. StepsBy 0 4 F) (λ i. StepsBy 0 5 F)
         (λ D s. enter (state_row rows next) D.values r next s)
         (λ D s. entering (z D) (E D) (state_row rows next) r.current_state (shared F s) p) _
         (enter_plays Sound (state_row rows next) here r next) (λ D n s₀ s. refl) (λ D r s₀ s. refl)
@@ -217,7 +215,7 @@ module _ (Sound : Type 0) (rows transitions : List ℕ) (context : Context)
         here : Sound → RowServed (state_row rows next)
         here s = served s next
 
-    chance-plays : Plays Sound chance_drawn (λ i c k k'. (k'.chances ≡ k.chances + 1) × (k'.values ≡ k.values)
+    chance-plays : Plays Sound draw_of (λ i c k k'. (k'.chances ≡ k.chances + 1) × (k'.values ≡ k.values)
         × (k'.attempts ≡ k.attempts) × (k'.zeros ≡ k.zeros) × (k'.signals ≡ k.signals)) (λ D s. chance_draw D.chance s)
     unfolding chance_draw
     chance-plays = record {
@@ -227,7 +225,7 @@ module _ (Sound : Type 0) (rows transitions : List ℕ) (context : Context)
       served = λ s c. tt;
     }
       where
-        go : (d : Drawn Place Float) → chance_drawn d ≡ chance_drawn (after d (λ c s. got c s))
+        go : (d : Drawn Place Float) → draw_of d ≡ draw_of (after d (λ c s. got c s))
         go (no n s) = refl
         go (got c s) = refl
 
@@ -238,7 +236,7 @@ module _ (Sound : Type 0) (rows transitions : List ℕ) (context : Context)
         (λ e. still 1 5 r F F p false refl)
         (λ e. plays_cond Sound stepped (λ i. StepsBy 1 5 F) _ _ (eqb (count_of row event) 0)
         (λ e. still 1 5 r F F p false refl)
-        (λ e. plays_on Sound chance_drawn _ stepped (λ c i. StepsBy 0 5 F) (λ i. StepsBy 1 5 F)
+        (λ e. plays_on Sound draw_of _ stepped (λ c i. StepsBy 0 5 F) (λ i. StepsBy 1 5 F)
         (λ D s. chance_draw D.chance s) (λ D s. drawn (z D) (E D) row event r (shared F s) p) _
         chance-plays (λ D n s₀ s. refl) (λ D c s₀ s. refl)
         (λ c. going-plays r F p (sample_state transitions (first_of row event) (count_of row event) c))
