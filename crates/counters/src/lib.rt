@@ -1,218 +1,132 @@
 // framework.rs: the counters of update_counter.
 #![tactic(auto)]
 
-ghost use Rattle.std.specs.Prelude.{◌≡◌, ◌&&◌, ◌||◌, get_or, eqb, ◌+◌, ◌≤◌};
+ghost use Rattle.std.specs.Prelude.{◌≡◌, ◌&&◌, get_or, eqb, ◌+◌, ◌≤◌};
 ghost use Rattle.machine.specs.Constants.{counter_a, counter_b, state_words};
-ghost use Rattle.machine.specs.Words.{lent_values};
 ghost use Rattle.steps.specs.Transition as Spec;
-ghost use Rattle.counters.specs.Counter.{value_after, counter_after};
 
-use dists::{Whole, WholeDrawn};
 use machine::constants::{COUNTER_A, COUNTER_B, DECREMENT, INCREMENT};
-use machine::source::Place;
+use machine::source::{Draw, Draws, Place};
 use machine::state::word;
+use refusal::Refusal;
 use samples::counter::sample_value;
-use steps::{Counted, Counter, Counters, Tallied, Tally, Zeroed};
-
-fn either(a: bool, b: bool) -> bool
-    ensures { result ≡ (a || b) }
-{
-    if a {
-        return true;
-    }
-    b
-}
+use steps::{Counter, Counters, Tally, Zeroed};
 
 // Increment, Decrement, or Set.
+#[tactic(auto, unfolding(steps::specs::Transition::applied))]
 fn applied(operation: u64, old: u64, change: u64) -> u64
     ensures { result ≡ Spec.applied operation old change }
 {
-    if operation == INCREMENT {
-        return numbers::saturating_add(old, change);
+    match operation {
+        INCREMENT => numbers::saturating_add(old, change),
+        DECREMENT => numbers::saturating_sub(old, change),
+        _ => change,
     }
-    if operation == DECREMENT {
-        return numbers::saturating_sub(old, change);
-    }
-    change
 }
 
 // Whether a counter reaches zero from another value, for the first time in this call.
 fn reports_zero(old: u64, value: u64, zeroed: bool) -> bool
     ensures { result ≡ Spec.reports_zero old value zeroed }
 {
-    if old == 0 {
-        return false;
-    }
-    if value == 0 {
-        return !zeroed;
-    }
-    false
-}
-
-fn counter_of(reports: bool, value: u64, zeroed: bool, at: Place) -> Counted
-    ensures { result ≡ Spec.counter_of reports value zeroed at }
-{
-    let zeroed = either(zeroed, reports);
-    Counted::NewValue(Counter {
-        value: value,
-        at: at,
-        zeroed: zeroed,
-        reports: reports,
-    })
+    old != 0 && value == 0 && !zeroed
 }
 
 // What a counter changes by: the other's value from before the update where copy is set, and else
 // a sample.
-fn change_of(
+fn change_of<D: Draws>(
     row: &[u64],
     k: usize,
-    values: &[f64],
-    words: &[u64],
+    draws: &D,
     at: Place,
     other: u64,
-) -> WholeDrawn
+) -> Result<Draw<u64>, Refusal>
     requires { k + 2 ≤ state_words }
-    ensures { result ≡ Spec.change_of row.now k (lent_values values.now words.now) at other }
+    ensures { result ≡ Spec.change_of row.now k (D.source draws.now).values at other }
 {
     if word(row, k + 1) == 1 {
-        return WholeDrawn::GotWhole(Whole {
-            value: other,
-            at: at,
-        });
+        return Ok(Draw { value: other, at });
     }
-    sample_value(row, k, values, words, at)
+    sample_value(row, k, draws, at)
 }
 
-// The new value of the counter that begins at word k of the row.
-fn value_after(
+// The counter that begins at word k of the row: its value after the update, and whether it reports zero.
+#[tactic(auto, unfolding(steps::specs::Transition::update_one))]
+fn update_one<D: Draws>(
     row: &[u64],
     k: usize,
-    values: &[f64],
-    words: &[u64],
+    draws: &D,
     at: Place,
     old: u64,
     other: u64,
-) -> WholeDrawn
+    zeroed: bool,
+) -> Result<Counter, Refusal>
     requires { k + 2 ≤ state_words }
-    ensures { result ≡ value_after row.now k (lent_values values.now words.now) at old other }
+    ensures { result ≡ Spec.update_one row.now k (D.source draws.now).values at old other zeroed }
 {
     let operation = word(row, k);
     if operation == 0 {
-        return WholeDrawn::GotWhole(Whole { value: old, at: at });
+        return Ok(Counter {
+            value: old,
+            at,
+            zeroed,
+            reports: false,
+        });
     }
-    let change = change_of(row, k, values, words, at, other);
-    match change {
-        WholeDrawn::Refused(n) => WholeDrawn::Refused(n),
-        WholeDrawn::GotWhole(w) => {
-            let value = applied(operation, old, w.value);
-            let taken = w.at;
-            WholeDrawn::GotWhole(Whole {
-                value: value,
-                at: taken,
-            })
-        }
-    }
-}
-
-// A counter with its new value, and whether it reports zero.
-fn counter_after(drawn: WholeDrawn, old: u64, zeroed: bool) -> Counted
-    ensures { result ≡ counter_after old zeroed drawn }
-{
-    match drawn {
-        WholeDrawn::Refused(n) => Counted::Refused(n),
-        WholeDrawn::GotWhole(w) => {
-            let at = w.at;
-            counter_of(reports_zero(old, w.value, zeroed), w.value, zeroed, at)
-        }
-    }
+    let change = change_of(row, k, draws, at, other)?;
+    let value = applied(operation, old, change.value);
+    let reports = reports_zero(old, value, zeroed);
+    Ok(Counter {
+        value,
+        at: change.at,
+        zeroed: zeroed | reports,
+        reports,
+    })
 }
 
 // ---- the counters of a row
-
-// A, then B, each by the values `old` from before the update: A copies B, and B copies A.
-pub fn update_counters(
-    row: &[u64],
-    values: &[f64],
-    words: &[u64],
-    old: Counters,
-    zeroed: Zeroed,
-    at: Place,
-) -> Tallied
-    ensures { result ≡ Spec.update_counters row.now (lent_values values.now words.now) old zeroed at }
-{
-    let drawn_a = value_after(
-        row,
-        COUNTER_A,
-        values,
-        words,
-        at,
-        old.counter_a,
-        old.counter_b,
-    );
-    let x = counter_after(drawn_a, old.counter_a, zeroed.counter_a);
-    let a = match x {
-        Counted::Refused(n) => return Tallied::Refused(n),
-        Counted::NewValue(a) => a,
-    };
-    let after_a = a.at;
-    let old_value_a = old.counter_a;
-    let drawn_b = value_after(
-        row,
-        COUNTER_B,
-        values,
-        words,
-        after_a,
-        old.counter_b,
-        old_value_a,
-    );
-    let y = counter_after(drawn_b, old.counter_b, zeroed.counter_b);
-    let b = match y {
-        Counted::Refused(n) => return Tallied::Refused(n),
-        Counted::NewValue(b) => b,
-    };
-    let after_b = b.at;
-    Tallied::At(Tally {
-        counters: Counters {
-            counter_a: a.value,
-            counter_b: b.value,
-        },
-        place: after_b,
-        zeroed: Zeroed {
-            counter_a: a.zeroed,
-            counter_b: b.zeroed,
-        },
-        reports: either(a.reports, b.reports),
-    })
-}
 
 // Whether the row has no counter, so that nothing changes.
 fn no_counters(row: &[u64]) -> bool
     ensures { result ≡ (eqb (get_or row.now counter_a 0) 0 && eqb (get_or row.now counter_b 0) 0) }
 {
-    if word(row, COUNTER_A) == 0 {
-        return word(row, COUNTER_B) == 0;
-    }
-    false
+    word(row, COUNTER_A) == 0 && word(row, COUNTER_B) == 0
 }
 
-// The same, where most rows have no counter.
-pub fn update_any(
+// A, then B, each by the values `old` from before the update: A copies B, and B copies A. Most rows have no counter.
+#[tactic(auto, using(crate::proofs::Counters::uncounted), unfolding(steps::specs::Transition::update_counters, steps::specs::Transition::tally_a, steps::specs::Transition::tally_b))]
+pub fn update_counters<D: Draws>(
     row: &[u64],
-    values: &[f64],
-    words: &[u64],
+    draws: &D,
     old: Counters,
     zeroed: Zeroed,
     at: Place,
-) -> Tallied
-    ensures { result ≡ Spec.update_counters row.now (lent_values values.now words.now) old zeroed at }
+) -> Result<Tally, Refusal>
+    ensures { result ≡ Spec.update_counters row.now (D.source draws.now).values old zeroed at }
 {
     if no_counters(row) {
-        return Tallied::At(Tally {
+        return Ok(Tally {
             counters: old,
             place: at,
-            zeroed: zeroed,
+            zeroed,
             reports: false,
         });
     }
-    update_counters(row, values, words, old, zeroed, at)
+    let Counters {
+        counter_a: old_a,
+        counter_b: old_b,
+    } = old;
+    let a = update_one(row, COUNTER_A, draws, at, old_a, old_b, zeroed.counter_a)?;
+    let b = update_one(row, COUNTER_B, draws, a.at, old_b, old_a, zeroed.counter_b)?;
+    Ok(Tally {
+        counters: Counters {
+            counter_a: a.value,
+            counter_b: b.value,
+        },
+        place: b.at,
+        zeroed: Zeroed {
+            counter_a: a.zeroed,
+            counter_b: b.zeroed,
+        },
+        reports: a.reports | b.reports,
+    })
 }

@@ -2,10 +2,10 @@
 // below_limit_blocking, below_limit_padding).
 #![tactic(auto)]
 
-ghost use Rattle.std.specs.Prelude.{◌≡◌, ◌&&◌};
-ghost use Rattle.steps.specs.Limits.{replace_of, below_fraction, below_limit_padding, blocking_on, with_ongoing, blocking_reached, own_reached, all_reached, below_limit_blocking, below_action_limits};
+ghost use Rattle.std.specs.Prelude.{◌≡◌};
+ghost use Rattle.steps.specs.Limits.{replace_of, below_fraction, below_limit_padding, with_ongoing, blocking_reached, own_reached, all_reached, below_limit_blocking, below_action_limits};
 
-use machine::constants::{ACTION, BLOCK_OUTGOING, FLAGS, SEND_PADDING, UPDATE_TIMER};
+use machine::constants::{ACTION, BLOCK_OUTGOING, FLAGS, NO_ACTION, SEND_PADDING, UPDATE_TIMER};
 use machine::state::word;
 use numbers::time::saturating_duration_since;
 use steps::{Context, MachineRuntime};
@@ -14,6 +14,7 @@ use steps::{Context, MachineRuntime};
 
 // One fraction, of p padding beside n normal packets; `rest` is what holds where it sets no limit
 // or is not reached.
+#[tactic(auto, unfolding(steps::specs::Limits::below_fraction))]
 fn below_fraction(f: f64, p: u64, n: u64, rest: bool) -> bool
     ensures { result ≡ below_fraction f p n rest }
 {
@@ -29,8 +30,9 @@ fn below_fraction(f: f64, p: u64, n: u64, rest: bool) -> bool
     rest
 }
 
-fn below_limit_padding(c: Context, r: MachineRuntime) -> bool
-    ensures { result ≡ below_limit_padding c r }
+#[tactic(auto, unfolding(steps::specs::Limits::below_limit_padding))]
+fn below_limit_padding(c: &Context, r: &MachineRuntime) -> bool
+    ensures { result ≡ below_limit_padding c.now r.now }
 {
     let left = r.state_limit > 0;
     // the allowance comes before both fractions
@@ -53,19 +55,9 @@ fn below_limit_padding(c: Context, r: MachineRuntime) -> bool
 
 // ---- blocking
 
-// Whether the action replaces ongoing blocking.
-fn replaces_blocking(c: Context, replace: bool) -> bool
-    ensures { result ≡ (replace && blocking_on c.blocking_active) }
-{
-    if replace {
-        return c.blocking_active != 0;
-    }
-    false
-}
-
 // Blocked time takes in the ongoing part.
-fn with_ongoing(c: Context, blocked: u64) -> u64
-    ensures { result ≡ with_ongoing c blocked }
+fn with_ongoing(c: &Context, blocked: u64) -> u64
+    ensures { result ≡ with_ongoing c.now blocked }
 {
     if c.blocking_active == 0 {
         return blocked;
@@ -80,15 +72,12 @@ fn with_ongoing(c: Context, blocked: u64) -> u64
 fn blocking_reached(f: f64, blocked: u64, since: u64) -> bool
     ensures { result ≡ blocking_reached f blocked since }
 {
-    if f > 0.0 {
-        return numbers::fraction_reached(blocked, since, f);
-    }
-    false
+    f > 0.0 && numbers::fraction_reached(blocked, since, f)
 }
 
 // The machine's fraction of the time since its start.
-fn own_reached(c: Context, r: MachineRuntime) -> bool
-    ensures { result ≡ own_reached c r }
+fn own_reached(c: &Context, r: &MachineRuntime) -> bool
+    ensures { result ≡ own_reached c.now r.now }
 {
     let blocked = with_ongoing(c, r.counts.blocking_duration);
     let running = saturating_duration_since(c.current_time, r.machine_start);
@@ -97,31 +86,30 @@ fn own_reached(c: Context, r: MachineRuntime) -> bool
 }
 
 // The framework's.
-fn all_reached(c: Context) -> bool
-    ensures { result ≡ all_reached c }
+fn all_reached(c: &Context) -> bool
+    ensures { result ≡ all_reached c.now }
 {
     let blocked = with_ongoing(c, c.blocking_duration);
     let running = saturating_duration_since(c.current_time, c.framework_start);
     blocking_reached(c.max_blocking_frac, blocked, running)
 }
 
-fn below_limit_blocking(c: Context, r: MachineRuntime, replace: bool) -> bool
-    ensures { result ≡ below_limit_blocking c r replace }
+#[tactic(auto, unfolding(steps::specs::Limits::below_limit_blocking))]
+fn below_limit_blocking(c: &Context, r: &MachineRuntime, replace: bool) -> bool
+    ensures { result ≡ below_limit_blocking c.now r.now replace }
 {
-    if replaces_blocking(c, replace) {
-        return r.state_limit > 0;
+    let left = r.state_limit > 0;
+    // replacing ongoing blocking, and the allowance, come before both fractions
+    if replace && c.blocking_active != 0 {
+        return left;
     }
-    // the allowance comes before both fractions
     if with_ongoing(c, r.counts.blocking_duration) < r.allowed_blocked_microsec {
-        return r.state_limit > 0;
+        return left;
     }
-    if own_reached(c, r) {
+    if own_reached(c, r) || all_reached(c) {
         return false;
     }
-    if all_reached(c) {
-        return false;
-    }
-    r.state_limit > 0
+    left
 }
 
 // ---- of the row of the machine's state
@@ -132,21 +120,15 @@ fn replace_of(row: &[u64]) -> bool
     word(row, FLAGS) / 2 % 2 == 1
 }
 
-pub fn below_action_limits(c: Context, r: MachineRuntime, row: &[u64]) -> bool
-    ensures { result ≡ below_action_limits c r row.now }
+#[tactic(auto, unfolding(steps::specs::Limits::below_action_limits))]
+pub fn below_action_limits(c: &Context, r: &MachineRuntime, row: &[u64]) -> bool
+    ensures { result ≡ below_action_limits c.now r.now row.now }
 {
-    let action = word(row, ACTION);
-    if action == 0 {
-        return false;
+    match word(row, ACTION) {
+        NO_ACTION => false,
+        BLOCK_OUTGOING => below_limit_blocking(c, r, replace_of(row)),
+        SEND_PADDING => below_limit_padding(c, r),
+        UPDATE_TIMER => r.state_limit > 0,
+        _ => true,
     }
-    if action == BLOCK_OUTGOING {
-        return below_limit_blocking(c, r, replace_of(row));
-    }
-    if action == SEND_PADDING {
-        return below_limit_padding(c, r);
-    }
-    if action == UPDATE_TIMER {
-        return r.state_limit > 0;
-    }
-    true
 }

@@ -90,7 +90,9 @@ pub const UNFIT_DRAW: u64 = 17;
 // Refusal of a distribution that is drawn outside, in a call from raw words.
 pub const DRAWN_OUTSIDE: u64 = 24;
 
-// Codes of an action.
+// Codes of an action; the first is none.
+pub const NO_ACTION: u64 = 0;
+
 pub const CANCEL: u64 = 1;
 
 pub const SEND_PADDING: u64 = 2;

@@ -47,7 +47,7 @@ move_of q t at = record {
 -- ---- the way: a refused draw and a report are left to the long one
 abbrev pub scheduled_in : MachineRuntime → Tally → Result (Draw TriggerAction) Refusal → Short
 scheduled_in q t (Err n) = Elsewhere
-scheduled_in q t (Set p at) = Acted p (move_of q t at)
+scheduled_in q t (Ok d) = Acted d.value (move_of q t d.at)
 
 unfoldable pub settle_in : List ℕ → Values Place → Context → MachineRuntime → Tally → Short
 settle_in row values c q t =
@@ -59,7 +59,8 @@ settle_with row values c q (Ok t) = cond t.reports Elsewhere (settle_in row valu
 
 abbrev pub settle_from : List ℕ → Values Place → Context → Zeroed → Result (Draw MachineRuntime) Refusal → Short
 settle_from row values c zeroed (Err n) = Elsewhere
-settle_from row values c zeroed (In q at) = settle_with row values c q (update_counters row values q.counters zeroed at)
+settle_from row values c zeroed (Ok d) =
+    settle_with row values c d.value (update_counters row values d.value.counters zeroed d.at)
 
 unfoldable pub settle : List ℕ → Values Place → Context → ℕ → MachineRuntime → Shared → Short
 settle row values c next r s = settle_from row values c s.zeroed (enter row values r next s.place)

@@ -1,14 +1,13 @@
 // framework.rs: the action that a state's row schedules (schedule_action).
 ghost use Rattle.std.specs.Prelude.{◌≡◌};
-ghost use Rattle.machine.specs.Words.{lent_values};
 ghost use Rattle.steps.specs.Transition.{no_action, returned_flags, returned_timer, schedule_action};
 
-use dists::WholeDrawn;
 use machine::constants::{ACTION, CANCEL, FLAGS, TIMER, UPDATE_TIMER};
-use machine::source::Place;
+use machine::source::{Draw, Draws, Place};
 use machine::state::word;
+use refusal::Refusal;
 use samples::action::{sample_duration, sample_timeout};
-use steps::{Scheduled, TriggerAction};
+use steps::TriggerAction;
 
 pub fn no_action() -> TriggerAction
     ensures { result ≡ no_action }
@@ -26,14 +25,11 @@ pub fn no_action() -> TriggerAction
 fn returned_flags(row: &[u64]) -> u64
     ensures { result ≡ returned_flags row.now }
 {
-    let action = word(row, ACTION);
-    if action == CANCEL {
-        return 0;
+    match word(row, ACTION) {
+        CANCEL => 0,
+        UPDATE_TIMER => word(row, FLAGS) / 2 % 2 * 2,
+        _ => word(row, FLAGS),
     }
-    if action == UPDATE_TIMER {
-        return word(row, FLAGS) / 2 % 2 * 2;
-    }
-    word(row, FLAGS)
 }
 
 // Only Cancel names a timer.
@@ -47,28 +43,25 @@ fn returned_timer(row: &[u64]) -> u64
 }
 
 // The timeout is drawn before the duration.
-pub fn schedule_action(row: &[u64], values: &[f64], words: &[u64], at: Place) -> Scheduled
-    ensures { result ≡ schedule_action row.now (lent_values values.now words.now) at }
+#[tactic(auto, unfolding(steps::specs::Transition::schedule_action))]
+pub fn schedule_action<D: Draws>(
+    row: &[u64],
+    draws: &D,
+    at: Place,
+) -> Result<Draw<TriggerAction>, Refusal>
+    ensures { result ≡ schedule_action row.now (D.source draws.now).values at }
 {
-    let timeout = sample_timeout(row, values, words, at);
-    let t = match timeout {
-        WholeDrawn::Refused(n) => return Scheduled::Refused(n),
-        WholeDrawn::GotWhole(w) => w,
+    let timeout = sample_timeout(row, draws, at)?;
+    let duration = sample_duration(row, draws, timeout.at)?;
+    let action = TriggerAction {
+        kind: word(row, ACTION),
+        flags: returned_flags(row),
+        timer: returned_timer(row),
+        timeout: timeout.value,
+        duration: duration.value,
     };
-    let timed = t.at;
-    let duration = sample_duration(row, values, words, timed);
-    match duration {
-        WholeDrawn::Refused(n) => Scheduled::Refused(n),
-        WholeDrawn::GotWhole(d) => {
-            let action = TriggerAction {
-                kind: word(row, ACTION),
-                flags: returned_flags(row),
-                timer: returned_timer(row),
-                timeout: t.value,
-                duration: d.value,
-            };
-            let lasting = d.at;
-            Scheduled::Set(action, lasting)
-        }
-    }
+    Ok(Draw {
+        value: action,
+        at: duration.at,
+    })
 }

@@ -3,21 +3,17 @@
 // it does not hold, `transition::going` says what follows. It is called in one place, so the compiler
 // works it out there; it answers what it may change and no more, since each word of an answer is
 // copied: docs/PERFORMANCE.md has what that saves.
-ghost use Rattle.std.specs.Prelude.{◌≡◌, ◌&&◌, eqb};
-ghost use Rattle.machine.specs.Words.{lent_values};
+ghost use Rattle.std.specs.Prelude.{◌≡◌};
 ghost use Rattle.moves.specs.Short as Spec;
 
 use super::action::schedule_action;
 use super::step::enter;
-use counters::update_any;
+use counters::update_counters;
 use limits::below_action_limits;
 use machine::constants::{STATE_END, STATE_SIGNAL};
-use machine::source::Place;
-use machine::state::{Next, state_row};
-use steps::{
-    Context, Counters, Entered, MachineRuntime, Scheduled, Shared, Tallied, Tally, TriggerAction,
-    Zeroed,
-};
+use machine::source::{Draws, Place};
+use machine::state::state_row;
+use steps::{Counters, Env, MachineRuntime, Shared, Tally, TriggerAction, Zeroed};
 
 // What a move to a state may change of its machine, and of what the call shares.
 #[derive(Clone, Copy)]
@@ -44,11 +40,10 @@ pub enum Short {
 pub fn runtime_after(r: MachineRuntime, d: Moved) -> MachineRuntime
     ensures { result ≡ Spec.runtime_after r d }
 {
-    let counters = d.counters;
     let mut q = r;
     q.current_state = d.current_state;
     q.state_limit = d.state_limit;
-    q.counters = counters;
+    q.counters = d.counters;
     q
 }
 
@@ -56,120 +51,76 @@ pub fn runtime_after(r: MachineRuntime, d: Moved) -> MachineRuntime
 pub fn shared_after(s: Shared, d: Moved) -> Shared
     ensures { result ≡ Spec.shared_after s d }
 {
-    let place = d.place;
-    let zeroed = d.zeroed;
     let mut t = s;
-    t.place = place;
-    t.zeroed = zeroed;
+    t.place = d.place;
+    t.zeroed = d.zeroed;
     t
 }
 
 // Of the machine as it entered the state, and its counters.
-fn move_of(q: MachineRuntime, t: Tally, at: Place) -> Moved
-    ensures { result ≡ Spec.move_of q t at }
+fn move_of(q: &MachineRuntime, t: &Tally, at: Place) -> Moved
+    ensures { result ≡ Spec.move_of q.now t.now at }
 {
-    let counters = t.counters;
-    let zeroed = t.zeroed;
     Moved {
         current_state: q.current_state,
         state_limit: q.state_limit,
-        counters: counters,
+        counters: t.counters,
         place: at,
-        zeroed: zeroed,
+        zeroed: t.zeroed,
     }
 }
 
 // ---- the way
 
-// Whether the machine's own limit falls: not where its state changes.
-fn may_fall(falls: bool, before: u64, next: u64) -> bool
-    ensures { result ≡ (falls && eqb before next) }
-{
-    if falls {
-        return before == next;
-    }
-    false
-}
-
 // After the counters: the action is scheduled where the limits allow it, which are judged with the
 // machine as it entered the state.
-fn settle_in(
-    row: &[u64],
-    values: &[f64],
-    words: &[u64],
-    c: Context,
-    entered: MachineRuntime,
-    t: Tally,
-) -> Short
-    ensures { result ≡ Spec.settle_in row.now (lent_values values.now words.now) c entered t }
+#[tactic(auto, unfolding(crate::specs::Short::settle_in))]
+fn settle_in<D: Draws>(e: &Env<D>, row: &[u64], entered: &MachineRuntime, t: &Tally) -> Short
+    ensures { result ≡ Spec.settle_in row.now (D.source e.now.draws.now).values e.now.context entered.now t.now }
 {
-    let place = t.place;
-    if below_action_limits(c, entered, row) {
-        let scheduled = schedule_action(row, values, words, place);
-        match scheduled {
-            Scheduled::Refused(_) => return Short::Elsewhere,
-            Scheduled::Set(action, at) => return Short::Acted(action, move_of(entered, t, at)),
-        }
+    if below_action_limits(&e.context, entered, row) {
+        let Ok(scheduled) = schedule_action(row, e.draws, t.place) else {
+            return Short::Elsewhere;
+        };
+        return Short::Acted(scheduled.value, move_of(entered, t, scheduled.at));
     }
-    Short::Kept(move_of(entered, t, place))
+    Short::Kept(move_of(entered, t, t.place))
 }
 
 // To a state of the machine, whose row is `row`.
-fn settle(
-    row: &[u64],
-    values: &[f64],
-    words: &[u64],
-    c: Context,
-    next: u64,
-    r: MachineRuntime,
-    s: Shared,
-) -> Short
-    ensures { result ≡ Spec.settle row.now (lent_values values.now words.now) c next r s }
+#[tactic(auto, unfolding(crate::specs::Short::settle))]
+fn settle<D: Draws>(e: &Env<D>, row: &[u64], next: u64, r: MachineRuntime, s: &Shared) -> Short
+    ensures { result ≡ Spec.settle row.now (D.source e.now.draws.now).values e.now.context next r s.now }
 {
-    let place = s.place;
-    let entered = enter(row, values, words, r, next, place);
-    match entered {
-        Entered::Refused(_) => Short::Elsewhere,
-        Entered::In(q, at) => {
-            let old = q.counters;
-            let zeroed = s.zeroed;
-            let tallied = update_any(row, values, words, old, zeroed, at);
-            match tallied {
-                Tallied::Refused(_) => Short::Elsewhere,
-                Tallied::At(t) => {
-                    if t.reports {
-                        return Short::Elsewhere;
-                    }
-                    settle_in(row, values, words, c, q, t)
-                }
-            }
-        }
-    }
-}
-
-pub fn short_way(
-    rows: &[u64],
-    values: &[f64],
-    words: &[u64],
-    c: Context,
-    falls: bool,
-    chosen: Next,
-    r: MachineRuntime,
-    s: Shared,
-) -> Short
-    ensures { result ≡ Spec.short rows.now (lent_values values.now words.now) c falls chosen r s }
-{
-    let Next::State(next) = chosen else {
+    let Ok(entered) = enter(row, e.draws, r, next, s.place) else {
         return Short::Elsewhere;
     };
-    if next == STATE_END {
+    let q = entered.value;
+    let Ok(t) = update_counters(row, e.draws, q.counters, s.zeroed, entered.at) else {
+        return Short::Elsewhere;
+    };
+    if t.reports {
         return Short::Elsewhere;
     }
-    if next == STATE_SIGNAL {
+    settle_in(e, row, &q, &t)
+}
+
+// The machine's own limit does not fall where its state changes.
+#[tactic(auto, unfolding(crate::specs::Short::short))]
+pub fn short_way<D: Draws>(
+    e: &Env<D>,
+    falls: bool,
+    chosen: Option<u64>,
+    r: MachineRuntime,
+    s: &Shared,
+) -> Short
+    ensures { result ≡ Spec.short e.now.rows.now (D.source e.now.draws.now).values e.now.context falls chosen r s.now }
+{
+    let Some(next) = chosen else {
+        return Short::Elsewhere;
+    };
+    if next == STATE_END || next == STATE_SIGNAL || (falls && r.current_state == next) {
         return Short::Elsewhere;
     }
-    if may_fall(falls, r.current_state, next) {
-        return Short::Elsewhere;
-    }
-    settle(state_row(rows, next), values, words, c, next, r, s)
+    settle(e, state_row(e.rows, next), next, r, s)
 }

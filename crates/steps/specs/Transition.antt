@@ -18,6 +18,7 @@ use Rattle.dists.specs.Dist.{got_whole}
 use Rattle.steps.specs.Limits.{flags_of, below_action_limits}
 use Rattle.steps.specs.declared.MachineRuntime.{MachineRuntime}
 use Rattle.steps.specs.declared.Context.{Context}
+use Rattle.steps.specs.declared.Env as Lent
 use Rattle.steps.specs.declared.Shared.{Shared}
 use Rattle.steps.specs.declared.Counters.{Counters}
 use Rattle.steps.specs.declared.Zeroed.{Zeroed}
@@ -41,6 +42,10 @@ env rows transitions source context = record {
   source = source;
   context = context;
 }
+
+-- what the code is lent, by what its source of draws is
+abbrev pub lent_env : {D : Type 0} → (D → Source Place) → Lent.Env D → Env
+lent_env source e = env e.rows.now e.transitions.now (source e.draws.now) e.context
 
 -- ---- records with some fields new; antt has no record update
 abbrev pub no_action : TriggerAction

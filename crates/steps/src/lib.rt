@@ -3,6 +3,9 @@
 // what a step changes is one of them.
 #![tactic(auto)]
 
+ghost use Rattle.std.specs.Prelude.{◌<◌};
+ghost use Rattle.machine.specs.Constants.{machine_max};
+
 use machine::source::Place;
 
 // What events count for one machine. Durations are in microseconds.
@@ -113,7 +116,18 @@ pub struct Context {
     pub blocking_active: u64,
 }
 
-// A machine after a step, and whether its state changed (framework.rs: StateChange).
+// What a machine's steps read and do not change: its own part of the state table, the transition table, the source of its draws, and
+// its context. A machine is one of the most that there may be.
+#[derive(Drop)]
+pub struct Env<'a, D> {
+    pub rows: &'a [u64],
+    pub transitions: &'a [u64],
+    pub draws: &'a D,
+    pub context: Context,
+    ghost known: { context.machine < machine_max },
+}
+
+// A machine on its way through a step, and whether its state has changed (framework.rs: StateChange).
 #[derive(Clone, Copy)]
 pub struct Step {
     pub runtime: MachineRuntime,

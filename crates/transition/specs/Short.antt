@@ -11,6 +11,7 @@ use Rattle.std.proofs.Math.Dec.{eqb}
 use Rattle.machine.specs.Constants.{state_end, state_signal}
 use Rattle.machine.specs.State.{state_row}
 use Rattle.machine.specs.declared.source.Place.{Place}
+use Rattle.machine.specs.Source.{draw}
 use Rattle.moves.specs.Short.{runtime_after, shared_after, move_of, scheduled_in, settle_in, settle_with, settle_from, settle, short}
 use Rattle.moves.specs.declared.settle.Moved.{Moved}
 use Rattle.moves.specs.declared.settle.Short.{Short}
@@ -66,7 +67,7 @@ module _ (n : ℕ) (E : Env) (falls : Bool) (r : MachineRuntime) (s : Shared) (p
           (scheduled_step u (has_changed r.current_state u) x)
           (done u.runtime u.shared u.action (has_changed r.current_state u))))
       scheduled true (Err k) = refl
-      scheduled true (Set a next) = rw (no_fall falls (eqb r.current_state state) (not (eqb state state_end)) still)
+      scheduled true (Ok d) = rw (no_fall falls (eqb r.current_state state) (not (eqb state state_end)) still)
       scheduled false x = rw (no_fall falls (eqb r.current_state state) (not (eqb state state_end)) still)
 
       reported : (reports : Bool) (zero : Result Update Refusal) →
@@ -88,8 +89,8 @@ module _ (n : ℕ) (E : Env) (falls : Bool) (r : MachineRuntime) (s : Shared) (p
     tallied at (Ok t) = reported at t t.reports _
 
     entered : (at : Place) →
-        Says r s p (settle_from row E.source.values E.context s.zeroed (In q at))
-        (after_transition E falls (entering (zero_transition n E) E row r.current_state s p (In q at)))
+        Says r s p (settle_from row E.source.values E.context s.zeroed (Ok (draw q at)))
+        (after_transition E falls (entering (zero_transition n E) E row r.current_state s p (Ok (draw q at))))
     unfolding update_counter
     entered at = tallied at (update_counters row E.source.values r.counters s.zeroed at)
 
@@ -103,10 +104,10 @@ module _ (n : ℕ) (E : Env) (falls : Bool) (r : MachineRuntime) (s : Shared) (p
   settled : (row : List ℕ) (next : ℕ) (same : Bool) → eqb r.current_state next ≡ same → (falls && same) ≡ false →
       Says r s p
       (settle_from row E.source.values E.context s.zeroed
-      (cond same (In r s.place) (entered_with r next (sample_limit row E.source.values s.place))))
+      (cond same (Ok (draw r s.place)) (entered_with r next (sample_limit row E.source.values s.place))))
       (after_transition E falls
       (entering (zero_transition n E) E row r.current_state s p
-      (cond same (In r s.place) (entered_with r next (sample_limit row E.source.values s.place)))))
+      (cond same (Ok (draw r s.place)) (entered_with r next (sample_limit row E.source.values s.place)))))
   settled row next true e h =
       entered row r.current_state r.state_limit (none falls h) s.place
     where

@@ -1,5 +1,5 @@
 -- The parts of a transition that follow its choice, as definitions of their own, and laws for callers. Assumes nothing.
-use Rattle.std.specs.Prelude.{Result, Err, Option, None}
+use Rattle.std.specs.Prelude.{Result, Ok, Err, Option, None}
 use Rattle.refusal.specs.declared.Refusal.{Refusal}
 use Rattle.machine.specs.declared.source.Draw.{Draw}
 use Rattle.steps.specs.declared.Step.{Step}
@@ -7,7 +7,7 @@ use Rattle.std.specs.Prelude.{ℕ, ◌+◌, ◌≤◌, Bool, true, false, cond, 
 use Rattle.std.proofs.Common.{arith}
 use Rattle.machine.specs.Constants.{counter_num, state_end}
 use Rattle.machine.specs.Event.{event_of}
-use Rattle.machine.specs.Source.{chance_draw}
+use Rattle.machine.specs.Source.{draw, chance_draw}
 use Rattle.machine.specs.State.{state_row, count_of}
 use Rattle.machine.specs.declared.source.Place.{Place}
 use Rattle.moves.specs.Choice.{idle, chosen_by, choose}
@@ -38,20 +38,20 @@ Quiet E = (event machine : ℕ) (at : Place) → E.source.attempt event machine 
 module _ (zero_transition : MachineRuntime → Shared → TriggerAction → Result Step Refusal) (E : Env) where
   abbrev pub on_choice : MachineRuntime → Shared → TriggerAction → Result (Draw (Option ℕ)) Refusal → Result Step Refusal
   on_choice r s p (Err n) = Err n
-  on_choice r s p (Chosen next at) = going zero_transition E r (with_place s at) p next
+  on_choice r s p (Ok d) = going zero_transition E r (with_place s d.at) p d.value
 
   module _ (event : ℕ) (r : MachineRuntime) (s : Shared) (p : TriggerAction) where
     after : (d : Result (Draw Float) Refusal) →
         drawn zero_transition E (state_row E.rows r.current_state) event r s p d
         ≡ on_choice r s p (chosen_by (state_row E.rows r.current_state) E.transitions event d)
     after (Err n) = refl
-    after (GotChance draw at) = refl
+    after (Ok d) = refl
 
     either : (ended none : Bool) (d : Result (Draw Float) Refusal) →
         cond ended (done r s p false)
         (cond none (done r s p false) (drawn zero_transition E (state_row E.rows r.current_state) event r s p d))
         ≡ on_choice r s p
-        (cond (ended || none) (Chosen None s.place)
+        (cond (ended || none) (Ok (draw None s.place))
         (chosen_by (state_row E.rows r.current_state) E.transitions event d))
     either true none d = refl
     either false true d = refl
@@ -78,14 +78,14 @@ module _ (E : Env) (quiet : Quiet E) (kind blocked : ℕ) (falls : Bool) (r : Ma
   unfolding turn
   turn_by x e = rw (transition_by_lem counter_num E quiet (event_of kind) (counted_by kind blocked r) s p e)
 
-  pub turn_missing : {why : ℕ} →
+  pub turn_missing : {why : Refusal} →
       choose E.rows E.transitions E.source.chance r.current_state (event_of kind) s.place ≡ Err why →
       turn E kind falls blocked r s p ≡ Err why
   turn_missing e = turn_by (Err _) e
 
   pub turn_chosen : {next : Option ℕ} {at : Place} →
-      choose E.rows E.transitions E.source.chance r.current_state (event_of kind) s.place ≡ Chosen next at →
+      choose E.rows E.transitions E.source.chance r.current_state (event_of kind) s.place ≡ Ok (draw next at) →
       turn E kind falls blocked r s p
       ≡ after_transition E falls (going_at counter_num E next (counted_by kind blocked r) (with_place s at) p)
   unfolding going_at
-  turn_chosen e = turn_by (Chosen _ _) e
+  turn_chosen e = turn_by (Ok (draw _ _)) e

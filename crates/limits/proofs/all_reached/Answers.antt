@@ -1,9 +1,0 @@
--- `all_reached` meets its contract. Assumes nothing.
-use Rattle.limits.proofs.all_reached.Goals as goal
-
-pub returns : goal.returns
-returns c =
-    let blocking-reached = c.blocking_reached in
-    let saturating-duration-since = c.saturating_duration_since-running in
-    let with-ongoing = c.with_ongoing-blocked in
-    rw (with-ongoing.ensures, saturating-duration-since.ensures) at blocking-reached.ensures
