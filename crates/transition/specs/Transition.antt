@@ -1,4 +1,5 @@
 -- The parts of a transition that follow its choice, as definitions of their own, and laws for callers. Assumes nothing.
+use Rattle.std.specs.Prelude.{Float}
 use Rattle.std.specs.Prelude.{Result, Ok, Err, Option, None}
 use Rattle.refusal.specs.declared.Refusal.{Refusal}
 use Rattle.machine.specs.declared.source.Draw.{Draw}
