@@ -1,4 +1,5 @@
 -- Whether a machine's turn changes its counts alone.
+use Rattle.std.specs.Prelude.{ℕ}
 use Rattle.std.specs.Prelude.{Option, Some, None}
 use Rattle.std.specs.Prelude.{Bool, true, false}
 

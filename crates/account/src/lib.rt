@@ -3,9 +3,9 @@
 #![tactic(auto)]
 
 ghost use Rattle.std.specs.Prelude.{◌≡◌, ◌+◌, ◌≤◌, ◌<◌};
-ghost use Rattle.machine.specs.Constants.{state_words, first_state, num_states};
-ghost use Rattle.machine.specs.State.{rows_of};
-ghost use Rattle.steps.specs.Events.{blocked_for, totals_after, counted_by, own_only, limit_falls, first_for, turns_for, machine_word, context_of};
+ghost use Rattle.machine.specs.Constants.{machine_max};
+ghost use Rattle.machine.specs.Tables.{lent_tables};
+ghost use Rattle.steps.specs.Events.{blocked_for, totals_after, counted_by, own_only, limit_falls, first_for, turns_for, states_of, context_of};
 ghost use Rattle.account.specs.Account.{only_counts};
 
 use machine::constants::{
@@ -15,8 +15,9 @@ use machine::constants::{
 use machine::event::{
     BLOCKING_BEGIN, BLOCKING_END, NORMAL_SENT, PADDING_SENT, TIMER_BEGIN_KIND, TIMER_END_KIND,
 };
-use machine::state::{Next, state_rows, word};
-use steps::{Context, Fixed, MachineRuntime, Totals};
+use machine::state::{state_rows, word};
+use machine::tables::Tables;
+use steps::{Context, Framework, MachineRuntime, Totals};
 
 // ---- the counts
 
@@ -147,55 +148,40 @@ pub fn limit_falls(kind: u64, machine: u64, m: u64) -> bool
 // ---- what a machine's transition reads
 
 // A machine's own part of the state table.
-pub fn states_of<'a>(machines: &[u64], states: &'a [u64], m: usize) -> &'a [u64]
-    requires { m < 16 }
-    ensures { let first = machine_word machines.now m first_state in
-        let count = machine_word machines.now m num_states in
-        result.now ≡ rows_of state_words states.now first count }
+pub fn states_of<'a>(t: &Tables<'a>, m: usize) -> &'a [u64]
+    requires { m < machine_max }
+    ensures { result.now ≡ states_of (lent_tables t.now) m }
 {
     let at = m * MACHINE_WORDS;
     state_rows(
-        states,
-        word(machines, at + FIRST_STATE),
-        word(machines, at + NUM_STATES),
+        t.states,
+        word(t.machines, at + FIRST_STATE),
+        word(t.machines, at + NUM_STATES),
     )
 }
 
 // Whether a turn changes the machine's counts alone: no next state was chosen, and the event is none
 // at which its limit falls. Then nothing else of the machine needs to be passed on and stored.
-pub fn only_counts(falls: bool, chosen: Next) -> bool
+#[tactic(auto, unfolding(crate::specs::Account::only_counts))]
+pub fn only_counts(falls: bool, chosen: Option<u64>) -> bool
     ensures { result ≡ only_counts falls chosen }
 {
-    if falls {
-        return false;
-    }
-    let Next::State(_) = chosen else {
-        return true;
-    };
-    false
+    !falls && chosen.is_none()
 }
 
 // Of the machine's row, and of the framework's own numbers.
-pub fn context_of(
-    machines: &[u64],
-    m: usize,
-    current_time: u64,
-    fixed: Fixed,
-    totals: Totals,
-) -> Context
-    requires { m < 16 }
-    ensures { result ≡ context_of machines.now m current_time fixed totals }
+pub fn context_of(machines: &[u64], m: usize, fw: &Framework) -> Context
+    requires { m < machine_max }
+    ensures { result ≡ context_of machines.now m fw.now.current_time fw.now.fixed fw.now.totals }
 {
     let at = m * MACHINE_WORDS;
-    let allowed_padding_packets = word(machines, at + ALLOWED_PADDING_PACKETS);
-    let machine_padding_bits = word(machines, at + MAX_PADDING_FRAC);
-    let machine_blocking_bits = word(machines, at + MAX_BLOCKING_FRAC);
+    let Framework { fixed, totals, .. } = *fw;
     Context {
         machine: m as u64,
-        allowed_padding_packets: allowed_padding_packets,
-        machine_padding_bits: machine_padding_bits,
-        machine_blocking_bits: machine_blocking_bits,
-        current_time: current_time,
+        allowed_padding_packets: word(machines, at + ALLOWED_PADDING_PACKETS),
+        machine_padding_bits: word(machines, at + MAX_PADDING_FRAC),
+        machine_blocking_bits: word(machines, at + MAX_BLOCKING_FRAC),
+        current_time: fw.current_time,
         max_padding_frac: fixed.max_padding_frac,
         max_blocking_frac: fixed.max_blocking_frac,
         framework_start: fixed.framework_start,

@@ -1,29 +1,16 @@
--- The lent tables as a record, and a run's outcome as the code answers it.
-use Rattle.std.specs.Prelude.{Result, Err}
+-- The outcome of a run, as the code answers it.
+use Rattle.std.specs.Prelude.{Result, Ok, Err}
+use Rattle.refusal.specs.Refusal.{number}
 use Rattle.refusal.specs.declared.Refusal.{Refusal}
-use Rattle.std.specs.Prelude.{ℕ, List}
-pub use Rattle.machine.specs.Tables.{tables}
-use Rattle.steps.specs.Events.{Run, Outcome, stop, go}
-use Rattle.steps.specs.Framework.{shared_from, no_actions}
-use Rattle.steps.specs.declared.Framework.{Framework}
-use Rattle.steps.specs.declared.Shared.{Shared}
-use Rattle.steps.specs.declared.TriggerAction.{TriggerAction}
-use Rattle.steps.specs.declared.Ran.{Ran}
+use Rattle.steps.specs.Events.{Outcome, stop, go}
+use Rattle.steps.specs.declared.Run.{Run}
 
-abbrev pub run : Framework → List TriggerAction → Shared → Run
-run fw actions s = record { framework = fw; actions = actions; shared = s }
+-- of a run that comes back
+abbrev pub outcome_of : Result Run Refusal → Outcome
+outcome_of (Err r) = stop (number r)
+outcome_of (Ok x) = go x
 
-abbrev pub run_of : Ran → Run
-run_of r = run r.framework r.actions r.shared
-
--- before the first event: no actions
-abbrev pub entered : Framework → Run
-entered fw = run fw no_actions (shared_from fw.signal_pending)
-
-abbrev pub ran : Result Unit Refusal → Run → Ran
-ran verdict x = record { verdict = verdict; framework = x.framework; actions = x.actions; shared = x.shared }
-
--- the outcome of a run that began at x; after a refusal, all as it was
-abbrev pub ran_from : Run → Outcome → Ran
-ran_from x (stop n) = ran (Err n) x
-ran_from x (go y) = ran Complete y
+-- of a run that was lent, as it is afterwards
+abbrev pub left_as : {A : Type 0} → Result A Refusal → Run → Outcome
+left_as (Err r) x = stop (number r)
+left_as (Ok a) x = go x

@@ -1,195 +1,192 @@
 // framework.rs, process_event: the events of a batch in order, each heard by its machines in order.
 #![tactic(auto)]
 
-ghost use Rattle.std.specs.Prelude.{◌≡◌, true, ◌/◌, length};
-ghost use Rattle.machine.specs.Words.{lent};
-ghost use Rattle.steps.specs.Events.{each, event_turn};
+ghost use Rattle.std.specs.Prelude.{◌≡◌, true, ◌/◌, ◌<◌, ◌≤◌, length, get_or, Ok, IfOk};
+ghost use Rattle.machine.specs.Constants.{counter_num, machine_max};
+ghost use Rattle.machine.specs.Event.{timer_end_kind};
+ghost use Rattle.machine.specs.Tables.{lent_tables};
+ghost use Rattle.steps.specs.Events.{after_transition, each, go, stored, machine_turn, process_event, event_turn};
 ghost use Rattle.steps.specs.Framework.{shared_from, begin, kinds_fit};
-ghost use Rattle.steps.specs.declared.Verdict.TheVariants.{Refused};
-ghost use Rattle.events.specs.Run.{tables, entered, ran, ran_from};
+ghost use Rattle.steps.specs.Transition.{lent_env, no_action};
+ghost use Rattle.transition.specs.Transition.{going_at};
+ghost use Rattle.events.specs.Run.{outcome_of, left_as};
 
 use account::{
     blocked_for, context_of, counted_by, end_for, first_for, limit_falls, only_counts, states_of,
     totals_after,
 };
 use machine::event::event_of;
-use machine::source::Place;
+use machine::source::{Draws, Place};
+use machine::tables::Tables;
 use moves::action::no_action;
-use moves::choice::{Choice, choose};
+use moves::choice::choose;
 use moves::settle::{Short, runtime_after, shared_after, short_way};
-use steps::{Framework, Ran, Shared, Stepped, Verdict, Zeroed};
+use refusal::Refusal;
+use steps::{Env, Framework, MachineRuntime, Run, Shared, Step, Zeroed};
+use transition::{after_transition, going};
 
-// What a call shares as it begins: no counter has reported zero, both tapes are at their front.
+// What a call shares as it begins: no counter has reported zero, the draws are at their front.
 fn shared_from(signal_pending: u64) -> Shared
     ensures { result ≡ shared_from signal_pending }
 {
-    let front = Place {
-        chance_at: 0,
-        value_at: 0,
-    };
-    let none = Zeroed {
-        counter_a: false,
-        counter_b: false,
-    };
     Shared {
-        signal_pending: signal_pending,
-        place: front,
-        zeroed: none,
+        signal_pending,
+        place: Place {
+            chance_at: 0,
+            value_at: 0,
+        },
+        zeroed: Zeroed {
+            counter_a: false,
+            counter_b: false,
+        },
     }
 }
 
-// A run that was refused: all as it was when it began.
-pub fn stopped(fw: Framework, refusal: u64) -> Ran
-    ensures { result ≡ ran (Refused refusal) (entered fw) }
+// A run before its first event.
+fn begin(fw: &Framework, time: u64) -> Run
+    ensures { result ≡ begin fw.now time }
 {
-    let none = no_action();
-    let actions = [none; 16];
-    let s = shared_from(fw.signal_pending);
-    Ran {
-        verdict: Verdict::Refused(refusal),
-        framework: fw,
-        actions: actions,
-        shared: s,
+    let mut framework = *fw;
+    framework.current_time = time;
+    Run {
+        framework,
+        actions: [no_action(); 16],
+        shared: shared_from(fw.signal_pending),
     }
 }
 
-// The run over all events. A turn of the loop is one machine at one event, or takes the next event:
-// `i` events are taken, and of the last one the machines from `m` to `end` are left. One loop, since
-// a framework that is passed on is copied.
-pub fn run_events(
-    fw: Framework,
-    machines: &[u64],
-    states: &[u64],
-    transitions: &[u64],
+// A machine's step goes back into the run; the other machines stay as they were.
+pub fn store(x: &mut Run, m: usize, d: Step)
+    requires { m < machine_max }
+    ensures is { go x.new ≡ stored x.old m (Ok d) }
+    ensures keeps { x.new.framework.machines ≡ x.old.framework.machines }
+{
+    x.framework.runtime[m] = d.runtime;
+    x.actions[m] = d.action;
+    x.shared = d.shared;
+}
+
+// A machine's turn on the long way.
+fn long_turn<D: Draws>(
+    x: &mut Run,
+    e: &Env<D>,
+    falls: bool,
+    chosen: Option<u64>,
+    counted: MachineRuntime,
+    m: usize,
+) -> Result<(), Refusal>
+    requires { m < machine_max }
+    ensures is { left_as result x.new ≡ stored x.old m (after_transition (lent_env D.source e.now) falls
+        (going_at counter_num (lent_env D.source e.now) chosen counted x.old.shared (get_or x.old.actions m no_action))) }
+    ensures keeps { x.new.framework.machines ≡ x.old.framework.machines }
+{
+    let d = Step {
+        runtime: counted,
+        shared: x.shared,
+        action: x.actions[m],
+        changed: false,
+    };
+    let went = going(e, chosen, d)?;
+    let d = after_transition(e, falls, went)?;
+    store(x, m, d);
+    Ok(())
+}
+
+// A machine's turn at an event; `blocked` is how long the blocking that ends was on.
+fn machine_turn<D: Draws>(
+    x: &mut Run,
+    t: &Tables,
+    draws: &D,
+    kind: u64,
+    machine: u64,
+    blocked: u64,
+    m: usize,
+) -> Result<(), Refusal>
+    requires few { m < machine_max }
+    requires known { kind ≤ timer_end_kind }
+    ensures is { left_as result x.new ≡ machine_turn (lent_tables t.now) (D.source draws.now) kind machine blocked m x.old }
+    ensures keeps { x.new.framework.machines ≡ x.old.framework.machines }
+{
+    let falls = limit_falls(kind, machine, m as u64);
+    let r = x.framework.runtime[m];
+    let counted = counted_by(kind, blocked, r);
+    let rows = states_of(t, m);
+    let event = event_of(kind);
+    let choice = choose(
+        rows,
+        t.transitions,
+        draws,
+        r.current_state,
+        event,
+        x.shared.place,
+    )?;
+    x.shared.place = choice.at;
+    if only_counts(falls, choice.value) {
+        x.framework.runtime[m] = counted;
+        return Ok(());
+    }
+    let e = Env {
+        rows,
+        transitions: t.transitions,
+        draws,
+        context: context_of(t.machines, m, &x.framework),
+    };
+    match short_way(&e, falls, choice.value, counted, &x.shared) {
+        Short::Elsewhere => long_turn(x, &e, falls, choice.value, counted, m),
+        Short::Kept(d) => {
+            x.framework.runtime[m] = runtime_after(counted, d);
+            x.shared = shared_after(x.shared, d);
+            Ok(())
+        }
+        Short::Acted(p, d) => {
+            x.actions[m] = p;
+            x.framework.runtime[m] = runtime_after(counted, d);
+            x.shared = shared_after(x.shared, d);
+            Ok(())
+        }
+    }
+}
+
+// An event: the framework's own counts first, then its machines in order.
+fn event_turn<D: Draws>(
+    x: &mut Run,
+    t: &Tables,
+    draws: &D,
+    kind: u64,
+    machine: u64,
+) -> Result<(), Refusal>
+    requires { kind ≤ timer_end_kind }
+    ensures is { left_as result x.new ≡ process_event (lent_tables t.now) (D.source draws.now) kind machine x.old }
+    ensures keeps { x.new.framework.machines ≡ x.old.framework.machines }
+{
+    let time = x.framework.current_time;
+    let totals = x.framework.totals;
+    let blocked = blocked_for(time, totals);
+    let first = first_for(kind, machine);
+    let end = end_for(kind, machine, numbers::smaller(x.framework.machines, 16));
+    x.framework.totals = totals_after(kind, time, totals);
+    for m in first as usize..end as usize {
+        machine_turn(x, t, draws, kind, machine, blocked, m)?;
+    }
+    Ok(())
+}
+
+// The run over all events, at a new time.
+pub fn run_events<D: Draws>(
+    fw: &Framework,
+    t: &Tables,
     time: u64,
     events: &[u64],
-    chances: &[f32],
-    values: &[f64],
-    words: &[u64],
-) -> Ran
+    draws: &D,
+) -> Result<Run, Refusal>
     requires { kinds_fit events.now (length events.now / 2) ≡ true }
-    ensures is { let T = tables machines.now states.now transitions.now in
-        let D = lent chances.now values.now words.now in
-        let es = events.now in
-        result ≡ ran_from (entered fw) (each (event_turn T D es) (length es / 2) 0 (begin fw time)) }
-    ensures keeps { result.framework.machines ≡ fw.machines }
+    ensures is { let es = events.now in
+        outcome_of result ≡ each (event_turn (lent_tables t.now) (D.source draws.now) es) (length es / 2) 0 (begin fw.now time) }
+    ensures keeps { IfOk result (λ x. x.framework.machines ≡ fw.now.machines) }
 {
-    let none = no_action();
-    let mut f = fw;
-    f.current_time = time;
-    let mut actions = [none; 16];
-    let mut s = shared_from(fw.signal_pending);
-    let n = events.len() / 2;
-    let mut i = 0;
-    let mut m = 0;
-    let mut end = 0;
-    let mut kind = 0;
-    let mut machine = 0;
-    let mut blocked = 0;
-    loop {
-        if m < end {
-            let falls = limit_falls(kind, machine, m as u64);
-            let rows = states_of(machines, states, m);
-            let r = f.runtime[m];
-            let counted = counted_by(kind, blocked, r);
-            let place = s.place;
-            let choice = choose(
-                rows,
-                transitions,
-                chances,
-                words,
-                r.current_state,
-                event_of(kind),
-                place,
-            );
-            let chosen = match choice {
-                Choice::Refused(why) => return stopped(fw, why),
-                Choice::Chosen(chosen, at) => {
-                    s.place = at;
-                    chosen
-                }
-            };
-            if only_counts(falls, chosen) {
-                f.runtime[m] = counted;
-                m = m + 1;
-                continue;
-            }
-            let fixed = f.fixed;
-            let totals = f.totals;
-            let read = context_of(machines, m, f.current_time, fixed, totals);
-            let short = short_way(rows, values, words, read, falls, chosen, counted, s);
-            match short {
-                Short::Elsewhere => {}
-                Short::Kept(d) => {
-                    let r2 = runtime_after(counted, d);
-                    f.runtime[m] = r2;
-                    s = shared_after(s, d);
-                    m = m + 1;
-                    continue;
-                }
-                Short::Acted(p2, d) => {
-                    actions[m] = p2;
-                    let r2 = runtime_after(counted, d);
-                    f.runtime[m] = r2;
-                    s = shared_after(s, d);
-                    m = m + 1;
-                    continue;
-                }
-            }
-            let p = actions[m];
-            // anew: one that both ways read would be made in memory and copied for the short one
-            let c = context_of(machines, m, f.current_time, fixed, totals);
-            let went = transition::going(
-                rows,
-                transitions,
-                chances,
-                values,
-                words,
-                c,
-                chosen,
-                counted,
-                s,
-                p,
-            );
-            let x = transition::after_transition(
-                rows,
-                transitions,
-                chances,
-                values,
-                words,
-                c,
-                falls,
-                went,
-            );
-            match x {
-                Stepped::Refused(why) => return stopped(fw, why),
-                Stepped::Done(d) => {
-                    let r2 = d.runtime;
-                    f.runtime[m] = r2;
-                    let p2 = d.action;
-                    actions[m] = p2;
-                    s = d.shared;
-                    m = m + 1;
-                    continue;
-                }
-            }
-        }
-        if n <= i {
-            return Ran {
-                verdict: Verdict::Complete,
-                framework: f,
-                actions: actions,
-                shared: s,
-            };
-        }
-        kind = events[i * 2];
-        machine = events[i * 2 + 1];
-        let before = f.totals;
-        blocked = blocked_for(f.current_time, before);
-        m = first_for(kind, machine) as usize;
-        end = end_for(kind, machine, numbers::smaller(f.machines, 16)) as usize;
-        let after = totals_after(kind, f.current_time, before);
-        f.totals = after;
-        i = i + 1;
+    let mut x = begin(fw, time);
+    for i in 0..events.len() / 2 {
+        event_turn(&mut x, t, draws, events[i * 2], events[i * 2 + 1])?;
     }
+    Ok(x)
 }

@@ -6,7 +6,8 @@ use lib.ListN.{set}
 use Rattle.machine.specs.Source.{Source}
 use Rattle.machine.specs.declared.source.Place.{Place}
 use Rattle.steps.specs.Transition.{with_place}
-use Rattle.steps.specs.Events.{Tables, Run, Outcome, stop, go, each, with_runtime}
+use Rattle.steps.specs.Events.{Tables, Outcome, stop, go, each, with_runtime}
+use Rattle.steps.specs.declared.Run.{Run}
 use Rattle.steps.specs.Framework.{shared_from, no_actions, open_machine, open_turn}
 use Rattle.steps.specs.declared.Framework.{Framework}
 use Rattle.steps.specs.declared.MachineRuntime.{MachineRuntime}

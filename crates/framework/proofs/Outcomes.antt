@@ -2,7 +2,8 @@
 use Rattle.std.specs.Prelude.{Err}
 use Prim.Native.Nat.{ℕ}
 use mathlib.Core.Path.{◌≡◌, sym, ap, ◌∙◌}
-use Rattle.steps.specs.Events.{Run, Outcome, stop, go}
+use Rattle.steps.specs.Events.{Outcome, stop, go}
+use Rattle.steps.specs.declared.Run.{Run}
 use Rattle.steps.specs.declared.Ran.{Ran}
 use Rattle.events.specs.Run.{run_of, ran_from}
 

@@ -15,7 +15,8 @@ use Rattle.machine.specs.Event.{signal}
 use Rattle.machine.specs.Source.{Source}
 use Rattle.machine.specs.declared.source.Place.{Place}
 use Rattle.steps.specs.Transition.{no_action, with_signal, transition}
-use Rattle.steps.specs.Events.{Tables, Run, Outcome, stop, go, and_then, each, num_machines, runtime_at, with_runtime}
+use Rattle.steps.specs.Events.{Tables, Outcome, stop, go, and_then, each, num_machines, runtime_at, with_runtime}
+use Rattle.steps.specs.declared.Run.{Run}
 use Rattle.steps.specs.Events.{env_of, signal_machine, signal_turn, last_signal, signals}
 use Rattle.steps.specs.declared.Framework.{Framework}
 use Rattle.steps.specs.declared.Shared.{Shared}

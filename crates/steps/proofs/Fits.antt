@@ -18,7 +18,8 @@ use Rattle.tables.specs.Machine.{tables_refusal}
 use Rattle.tables.proofs.Valid.Laws.{zero_valid}
 use Rattle.steps.specs.Limits.{below_action_limits}
 use Rattle.steps.specs.Transition.{no_action, raise, transition}
-use Rattle.steps.specs.Events.{Tables, Run, Outcome, stop, go, num_machines, no_runtime, runtime_at, env_of, stored, limit_falls, turn, machine_turn, signal_machine}
+use Rattle.steps.specs.Events.{Tables, Outcome, stop, go, num_machines, no_runtime, runtime_at, env_of, stored, limit_falls, turn, machine_turn, signal_machine}
+use Rattle.steps.specs.declared.Run.{Run}
 use Rattle.steps.specs.Framework.{rows_in, states_fit, has_ended, ended_in, fits_tables, events_fit, open_run, open_refusal, opening, trigger_events, batch_refusal, refused, accepted, batch}
 use Rattle.steps.specs.Words.{Lent, on_tapes, on_words, outside_refused, batch_on}
 use Rattle.steps.specs.Runs.{either, stored_all, OutcomeOk, none_of, opening_ok, batch_ok, event_kept, run_kept}

@@ -20,7 +20,7 @@ use Rattle.steps.specs.declared.Counters.{Counters}
 use Rattle.steps.specs.declared.Fixed.{Fixed}
 use Rattle.steps.specs.declared.Totals.{Totals}
 use Rattle.steps.specs.declared.Framework.{Framework}
-pub use Rattle.steps.specs.declared.Run.{Run}
+use Rattle.steps.specs.declared.Run.{Run}
 use Rattle.steps.specs.declared.Context.{Context}
 use Rattle.steps.specs.declared.Shared.{Shared}
 use Rattle.steps.specs.declared.TriggerAction.{TriggerAction}

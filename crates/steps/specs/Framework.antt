@@ -17,7 +17,8 @@ unfoldable pub use Rattle.rows.specs.First.{or_else}
 use Rattle.tables.specs.Framework.{fractions_refusal}
 use Rattle.tables.specs.Machine.{tables_refusal}
 use Rattle.steps.specs.Transition.{no_action, with_place}
-use Rattle.steps.specs.Events.{Tables, Run, Outcome, stop, go, and_then, each, no_counts, no_counters, no_runtime, num_machines, runtime_at, with_runtime, machine_word, states_of, event_turn, kind_at, signals}
+use Rattle.steps.specs.Events.{Tables, Outcome, stop, go, and_then, each, no_counts, no_counters, no_runtime, num_machines, runtime_at, with_runtime, machine_word, states_of, event_turn, kind_at, signals}
+use Rattle.steps.specs.declared.Run.{Run}
 use Rattle.steps.specs.declared.MachineRuntime.{MachineRuntime}
 use Rattle.steps.specs.declared.Fixed.{Fixed}
 use Rattle.steps.specs.declared.Totals.{Totals}

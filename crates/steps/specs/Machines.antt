@@ -17,7 +17,8 @@ use Rattle.machine.specs.State.{state_row}
 use Rattle.machine.specs.declared.source.Place.{Place}
 use Rattle.samples.specs.Action.{action_of}
 use Rattle.steps.specs.Transition.{no_action, transition}
-use Rattle.steps.specs.Events.{Tables, Run, Outcome, num_machines, no_runtime, runtime_at, machine_word, states_of, env_of, stored, with_counts, limit_falls, turn, machine_turn, pending_of, signal_machine}
+use Rattle.steps.specs.Events.{Tables, Outcome, num_machines, no_runtime, runtime_at, machine_word, states_of, env_of, stored, with_counts, limit_falls, turn, machine_turn, pending_of, signal_machine}
+use Rattle.steps.specs.declared.Run.{Run}
 use Rattle.steps.specs.Framework.{shared_from, no_actions, new_framework, new_runtime, start_limit, opened_with, open_machine, opened, open_turn, rows_in, open_run, trigger_events}
 use Rattle.steps.specs.Runs.{either, stored_at, OutcomeOk, turns_ok, event_kept, run_kept}
 use Rattle.steps.specs.Draws.{Refuses, WholeOk, limit_ok}

@@ -9,7 +9,8 @@ use Rattle.machine.specs.Source.{Source}
 use Rattle.machine.specs.Event.{normal_sent, padding_sent}
 use Rattle.machine.specs.declared.source.Place.{Place}
 use Rattle.rows.specs.First.{or_else}
-use Rattle.steps.specs.Events.{Tables, Run, Outcome, stop, go, and_then, each, num_machines, own_only, machine_turn, account, first_for, turns_for, blocked_now, process_event, kind_at, machine_at, event_turn, pending_of, unsignalled, signal_machine, signal_turn, last_signal, signals}
+use Rattle.steps.specs.Events.{Tables, Outcome, stop, go, and_then, each, num_machines, own_only, machine_turn, account, first_for, turns_for, blocked_now, process_event, kind_at, machine_at, event_turn, pending_of, unsignalled, signal_machine, signal_turn, last_signal, signals}
+use Rattle.steps.specs.declared.Run.{Run}
 use Rattle.steps.specs.Framework.{open_run, opened_by, open_refusal, opening, begin, trigger_events, batch_refusal, Batch, refused, accepted, concluded, batch}
 use Rattle.steps.specs.declared.Framework.{Framework}
 use Rattle.steps.specs.declared.Opened.{Opened}

@@ -7,7 +7,8 @@ use Rattle.machine.specs.Source.{Source, Telling}
 use Rattle.machine.specs.declared.source.Place.{Place}
 use Rattle.machine.specs.Constants.{machine_max}
 use Rattle.steps.specs.Transition.{no_action}
-use Rattle.steps.specs.Events.{Tables, Run, each, num_machines, kind_at, machine_at, event_turn, signals}
+use Rattle.steps.specs.Events.{Tables, each, num_machines, kind_at, machine_at, event_turn, signals}
+use Rattle.steps.specs.declared.Run.{Run}
 use Rattle.steps.specs.Framework.{begin, trigger_events, accepted, batch}
 use Rattle.steps.specs.Runs.{OutcomeOk, ok_any, ok_then, ok_map, each_ok, batch_ok}
 use Rattle.steps.specs.Machines.{none_pending}

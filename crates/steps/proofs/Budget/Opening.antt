@@ -21,7 +21,8 @@ use Rattle.numbers.specs.Finite.{zero_f}
 use Rattle.tables.specs.Framework.{is_fraction, fractions_refusal}
 use Rattle.tables.proofs.Valid.Laws.{zero_valid}
 use Rattle.tables.specs.Machine.{tables_refusal}
-use Rattle.steps.specs.Events.{Tables, Run, no_runtime, runtime_at, machine_word}
+use Rattle.steps.specs.Events.{Tables, no_runtime, runtime_at, machine_word}
+use Rattle.steps.specs.declared.Run.{Run}
 use Rattle.steps.specs.Framework.{rows_in, open_run, open_refusal, opening}
 use Rattle.steps.specs.Runs.{stored_all, OutcomeOk, ok_any, none_of, opening_ok}
 use Rattle.steps.specs.Draws.{by_told}

@@ -12,7 +12,8 @@ use Rattle.std.proofs.Common.{arith, inl, inr, sym, ◌∙◌, subst, length-set
 use Rattle.machine.specs.Constants.{machine_max}
 use Rattle.steps.specs.Limits.{below_limit_padding}
 use Rattle.steps.specs.Transition.{no_action}
-use Rattle.steps.specs.Events.{Run, num_machines, no_runtime, runtime_at, with_runtime, context_of, stored}
+use Rattle.steps.specs.Events.{num_machines, no_runtime, runtime_at, with_runtime, context_of, stored}
+use Rattle.steps.specs.declared.Run.{Run}
 use Rattle.steps.specs.Runs.{OutcomeOk}
 use Rattle.steps.specs.Walk.{Stays}
 use Rattle.steps.specs.Budget.{Ledger, packets, allowance, fraction}

@@ -10,7 +10,8 @@ use Rattle.machine.specs.Source.{Source, Telling}
 use Rattle.machine.specs.declared.source.Place.{Place}
 use Rattle.machine.specs.Event.{normal_sent, padding_sent, blocking_begin, blocking_end, signal}
 use Rattle.steps.specs.Transition.{Env, no_action, transition}
-use Rattle.steps.specs.Events.{Run, Outcome, each, num_machines, runtime_at, env_of, blocked_now, totals_after, with_totals, with_blocking, accounted, limit_falls, turn, machine_turn, account, first_for, turns_for, process_event, signal_machine, signals}
+use Rattle.steps.specs.Events.{Outcome, each, num_machines, runtime_at, env_of, blocked_now, totals_after, with_totals, with_blocking, accounted, limit_falls, turn, machine_turn, account, first_for, turns_for, process_event, signal_machine, signals}
+use Rattle.steps.specs.declared.Run.{Run}
 use Rattle.steps.specs.Limits.{blocking_on}
 use Rattle.steps.specs.Runs.{either, OutcomeOk, ok_map, each_ok, turn_range, no_turn, signals_kept}
 use Rattle.steps.specs.Walk.{transition_kept, turn_kept}

@@ -6,7 +6,8 @@ use Rattle.std.proofs.Common.{arith, true≢false, sym, ap, ◌∙◌, eqb-true}
 use Rattle.std.proofs.lemmas.Bool.{eqb-false}
 use Rattle.machine.specs.declared.source.Place.{Place}
 use Rattle.outside.specs.Outside.{draws_outside}
-use Rattle.steps.specs.Events.{Tables, Run, Outcome, stop, go}
+use Rattle.steps.specs.Events.{Tables, Outcome, stop, go}
+use Rattle.steps.specs.declared.Run.{Run}
 use Rattle.steps.specs.Words.{outside_refused}
 use Rattle.steps.proofs.Words.Tapes.{at_place, Stops16}
 use Rattle.steps.proofs.Words.Taken.{taken, TakesMost, SameWithin}

@@ -10,7 +10,8 @@ use Rattle.std.proofs.lemmas.List.{drop-append-le}
 use Rattle.machine.specs.Source.{Drawn, no, got, Source, place}
 use Rattle.machine.specs.Words.{chance_of, value_of, word_chance, word_value, words}
 use Rattle.machine.specs.declared.source.Place.{Place}
-use Rattle.steps.specs.Events.{Tables, Run, Outcome, go}
+use Rattle.steps.specs.Events.{Tables, Outcome, go}
+use Rattle.steps.specs.declared.Run.{Run}
 use Rattle.steps.specs.Framework.{open_run, trigger_events}
 use Rattle.steps.specs.Runs.{OutcomeOk}
 use Rattle.steps.specs.Play.{Play, ends, attempts, ask_chance, ask_uniform, ask_outside, after, run, Counts, Plays}

@@ -22,7 +22,8 @@ use Rattle.machine.specs.declared.source.Place.{Place}
 use Rattle.samples.specs.Action.{action_of, sample_limit}
 use Rattle.dists.specs.Dist.{got_whole}
 use Rattle.steps.specs.Transition.{no_action}
-use Rattle.steps.specs.Events.{Tables, Run, Outcome, stop, go, and_then, each, num_machines, runtime_at, with_runtime, machine_word, context_of, states_of, stored, accounted, blocked_now, limit_falls, machine_turn, first_for, turns_for, own_only, process_event, kind_at, machine_at, event_turn, signal_machine, signal_turn, last_signal, signals}
+use Rattle.steps.specs.Events.{Tables, Outcome, stop, go, and_then, each, num_machines, runtime_at, with_runtime, machine_word, context_of, states_of, stored, accounted, blocked_now, limit_falls, machine_turn, first_for, turns_for, own_only, process_event, kind_at, machine_at, event_turn, signal_machine, signal_turn, last_signal, signals}
+use Rattle.steps.specs.declared.Run.{Run}
 use Rattle.steps.specs.Framework.{none_zeroed, no_actions, with_time, new_runtime, start_limit, opened_with, open_machine, opened, open_turn, kinds_fit}
 use Rattle.steps.specs.Play.{Counts, one, RowServed, Plays, plays_end, plays_cond, plays_weaken, plays_on, plays_then}
 use Rattle.steps.specs.Play.Samples.{Spent, limit_plays}
