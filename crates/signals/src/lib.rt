@@ -1,126 +1,103 @@
 // The signals after the last event of a batch.
 #![tactic(auto)]
 
-ghost use Rattle.std.specs.Prelude.{◌≡◌, ◌&&◌, ◌+◌, ◌≤◌, leb, ltb};
-ghost use Rattle.machine.specs.Words.{lent};
-ghost use Rattle.steps.specs.Events.{signals};
-ghost use Rattle.events.specs.Run.{tables, run, ran_from};
+ghost use Rattle.std.specs.Prelude.{◌≡◌, ◌<◌, IfOk};
+ghost use Rattle.machine.specs.Constants.{machine_max};
+ghost use Rattle.machine.specs.Tables.{lent_tables};
+ghost use Rattle.steps.specs.Events.{signal_machine, signal_turn, last_signal, signals};
+ghost use Rattle.events.specs.Run.{outcome_of, left_as};
 
 use account::{context_of, states_of};
+use events::store;
 use machine::event::SIGNAL;
-use steps::{Framework, Ran, Shared, Stepped, TriggerAction, Verdict};
+use machine::source::Draws;
+use machine::tables::Tables;
+use refusal::Refusal;
+use steps::{Env, Run, Step};
+use transition::transition;
 
-// Whether a signal leaves out a machine, one of `count`.
-fn known(signal: u64, count: u64) -> bool
-    requires { count ≤ 16 }
-    ensures { result ≡ (leb 2 signal && ltb signal (2 + count)) }
+// A machine hears a signal.
+#[tactic(auto, unfolding(steps::specs::Events::signal_machine))]
+fn signal_machine<D: Draws>(
+    x: &mut Run,
+    t: &Tables,
+    draws: &D,
+    m: usize,
+) -> Result<(), Refusal>
+    requires { m < machine_max }
+    ensures is { left_as result x.new ≡ signal_machine (lent_tables t.now) (D.source draws.now) m x.old }
+    ensures keeps { x.new.framework.machines ≡ x.old.framework.machines }
 {
-    if 2 <= signal {
-        return signal < 2 + count;
-    }
-    false
+    let e = Env {
+        rows: states_of(t, m),
+        transitions: t.transitions,
+        draws,
+        context: context_of(t.machines, m, &x.framework),
+    };
+    let d = Step {
+        runtime: x.framework.runtime[m],
+        shared: x.shared,
+        action: x.actions[m],
+        changed: false,
+    };
+    let heard = transition(&e, SIGNAL, d)?;
+    store(x, m, heard);
+    Ok(())
 }
 
-// A pending signal is taken, and each machine but the one left out hears it. If that raised another,
-// the machine left out hears it last, and what it raises stays pending; with none left out that
-// signal is dropped. The machines from `m` to `end` are still to hear it; `left_out` is the signal
-// that was taken, and 0 at the last one.
-pub fn run_signals(
-    machines: &[u64],
-    states: &[u64],
-    transitions: &[u64],
-    chances: &[f32],
-    values: &[f64],
-    words: &[u64],
-    fw: Framework,
-    actions: [TriggerAction; 16],
-    s: Shared,
-) -> Ran
-    requires { s.signal_pending ≡ 0 → ⊥ }
-    ensures is { let T = tables machines.now states.now transitions.now in
-        let D = lent chances.now values.now words.now in
-        result ≡ ran_from (run fw actions s) (signals T D (run fw actions s)) }
-    ensures keeps { result.framework.machines ≡ fw.machines }
+// A machine's turn in a round for the signal `taken`, which may leave it out.
+fn signal_turn<D: Draws>(
+    x: &mut Run,
+    t: &Tables,
+    draws: &D,
+    taken: u64,
+    m: usize,
+) -> Result<(), Refusal>
+    requires { m < machine_max }
+    ensures is { left_as result x.new ≡ signal_turn (lent_tables t.now) (D.source draws.now) taken m x.old }
+    ensures keeps { x.new.framework.machines ≡ x.old.framework.machines }
 {
-    let mut f = fw;
-    let mut a = actions;
-    let mut t = s;
-    t.signal_pending = 0;
-    let mut left_out = s.signal_pending;
-    let mut m = 0;
-    let mut end = numbers::smaller(fw.machines, 16) as usize;
-    loop {
-        if m < end {
-            if left_out == (m as u64) + 2 {
-                m = m + 1;
-                continue;
-            }
-            let rows = states_of(machines, states, m);
-            let fixed = f.fixed;
-            let totals = f.totals;
-            let c = context_of(machines, m, f.current_time, fixed, totals);
-            let r = f.runtime[m];
-            let p = a[m];
-            let x = transition::transition(
-                rows,
-                transitions,
-                chances,
-                values,
-                words,
-                c,
-                SIGNAL,
-                r,
-                t,
-                p,
-            );
-            match x {
-                Stepped::Refused(why) => {
-                    return Ran {
-                        verdict: Verdict::Refused(why),
-                        framework: fw,
-                        actions: actions,
-                        shared: s,
-                    };
-                }
-                Stepped::Done(d) => {
-                    let r2 = d.runtime;
-                    let p2 = d.action;
-                    f.runtime[m] = r2;
-                    a[m] = p2;
-                    t = d.shared;
-                }
-            }
-            m = m + 1;
-            continue;
-        }
-        if t.signal_pending == 0 {
-            return Ran {
-                verdict: Verdict::Complete,
-                framework: f,
-                actions: a,
-                shared: t,
-            };
-        }
-        if left_out == 0 {
-            return Ran {
-                verdict: Verdict::Complete,
-                framework: f,
-                actions: a,
-                shared: t,
-            };
-        }
-        t.signal_pending = 0;
-        if known(left_out, numbers::smaller(f.machines, 16)) {
-            m = (left_out - 2) as usize;
-            end = m + 1;
-            left_out = 0;
-            continue;
-        }
-        return Ran {
-            verdict: Verdict::Complete,
-            framework: f,
-            actions: a,
-            shared: t,
-        };
+    if taken == 2 + m as u64 {
+        return Ok(());
     }
+    signal_machine(x, t, draws, m)
+}
+
+// After a round for the signal `taken`: if that raised another, the machine left out hears it last, and what it raises stays
+// pending; with none left out that signal is dropped.
+fn last_signal<D: Draws>(
+    x: &mut Run,
+    t: &Tables,
+    draws: &D,
+    taken: u64,
+) -> Result<(), Refusal>
+    ensures is { left_as result x.new ≡ last_signal (lent_tables t.now) (D.source draws.now) taken x.old }
+    ensures keeps { x.new.framework.machines ≡ x.old.framework.machines }
+{
+    if x.shared.signal_pending == 0 {
+        return Ok(());
+    }
+    x.shared.signal_pending = 0;
+    if 2 <= taken && taken < 2 + numbers::smaller(x.framework.machines, 16) {
+        return signal_machine(x, t, draws, (taken - 2) as usize);
+    }
+    Ok(())
+}
+
+// A pending signal is taken, and each machine but the one left out hears it.
+pub fn run_signals<D: Draws>(x: &Run, t: &Tables, draws: &D) -> Result<Run, Refusal>
+    ensures is { outcome_of result ≡ signals (lent_tables t.now) (D.source draws.now) x.now }
+    ensures keeps { IfOk result (λ y. y.framework.machines ≡ x.now.framework.machines) }
+{
+    let mut y = *x;
+    let taken = x.shared.signal_pending;
+    if taken == 0 {
+        return Ok(y);
+    }
+    y.shared.signal_pending = 0;
+    for m in 0..numbers::smaller(x.framework.machines, 16) as usize {
+        signal_turn(&mut y, t, draws, taken, m)?;
+    }
+    last_signal(&mut y, t, draws, taken)?;
+    Ok(y)
 }

@@ -1,17 +1,11 @@
-use Prim.Native.Nat.{◌+◌, ◌*◌, ◌-◌, ◌≤◌, min}
-use mathlib.Core.Path.{◌≡◌}
-use Rattle.machine.specs.Words.{lent}
-use Rattle.steps.specs.Events.{signals}
-use Rattle.events.specs.Run.{tables, run}
-use Rattle.signals.proofs.Heard.{Heard}
+use Rattle.std.specs.Prelude.{◌≡◌, ◌-◌}
+use Rattle.machine.specs.Tables.{lent_tables}
+use Rattle.steps.specs.Events.{each, signal_turn}
 use Rattle.signals.proofs.run_signals.Given as goal
 
+-- the whole round is what is left of it
 abbrev pub invariant-loop-m : goal.invariant-loop-m
-invariant-loop-m l =
-    let T = tables l.machines l.states l.transitions in
-    let D = lent l.chances l.values l.words in
-    (l.end ≤ 16) × (l.f.machines ≡ l.fw.machines) × Heard (signals T D (run l.fw l.actions l.s)) T D l.left_out l.m l.end l.f l.a l.t
-
-abbrev pub decreases-loop-m : goal.decreases-loop-m
-decreases-loop-m l =
-    min l.left_out 1 * 17 + (l.end - l.m)
+invariant-loop-m g l =
+    let turn = signal_turn (lent_tables l.t) (g.D.Draws.source l.draws) l.taken in
+    (each turn l.m-end 0 l.initial.y ≡ each turn (l.m-end - l.m) l.m l.y)
+    × (l.y.framework.machines ≡ l.initial.y.framework.machines)
