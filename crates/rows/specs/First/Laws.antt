@@ -4,7 +4,16 @@ use Rattle.std.proofs.Common.{eq-or-lt_of_le, sym, ◌∙◌, subst, ⊎_elim, e
 use native.Mathlib.Omega.{arith}
 use Rattle.std.specs.Prelude.{◌≡◌, refl, Bool, true, false, eqb}
 use Rattle.std.proofs.lemmas.Bool.{eqb-false}
+use Rattle.refusal.specs.declared.Refusal.{Refusal}
+use Rattle.refusal.specs.Refusal.{number}
 use Rattle.rows.specs.First.{or_else, first_refusal}
+
+-- ---- a refusal is not 0
+pub refused : (r : Refusal) → number r ≡ 0 → ⊥
+refused r e = absurd (omega (arith, positive r, e))
+  where
+    positive : (s : Refusal) → 0 < number s
+    positive s = grind arith
 
 -- ---- one refusal, then another
 pub second : {a b : ℕ} → a ≡ 0 → or_else a b ≡ b
