@@ -1,7 +1,7 @@
 -- A table of words, read as rows of w words each. Assumes nothing.
-use Rattle.std.proofs.Common.{◌≡◌, ℕ, zero, suc, ◌+◌, ◌*◌, ◌≤◌, ◌<◌, List, [], ◌∷◌, ◌++◌, length, get_or, take, drop, refl, sym, ap, ◌∙◌, arith}
+use Rattle.std.proofs.Common.{◌≡◌, ℕ, zero, suc, ◌+◌, ◌*◌, ◌-◌, ◌/◌, ◌≤◌, ◌<◌, List, [], ◌∷◌, ◌++◌, length, get_or, take, drop, length-take, length-drop, refl, sym, ap, ◌∙◌, arith}
 use Rattle.std.proofs.lemmas.List.{get_or-take, get_or-drop}
-use native.Mathlib.Nat.{zero-mul, one-mul}
+use native.Mathlib.Nat.{zero-mul, one-mul, mul-le-mul_right, div-mul-le_self}
 use lib.Seq.{drop-drop, take-add, take-append_seam, drop-append-add}
 use Rattle.std.specs.List.{concat}
 use Rattle.std.specs.Simd.{first_chunks}
@@ -44,6 +44,15 @@ part w (suc k) (suc first) n s h =
 pub words_within : (w k first n : ℕ) (s : List ℕ) → first + n ≤ k → concat (take n (drop first (first_chunks w k s))) ≡ rows_of w s first n
 unfolding rows_of
 words_within w k first n s h = ap concat (part w k first n s h) ∙ words_of w n (drop (first * w) s)
+
+-- n rows from row `first` on, where the table has them
+pub part_of : (w first n : ℕ) (s : List ℕ) (rows : List (List ℕ)) → rows ≡ first_chunks w (length s / w) s → first + n ≤ length s / w
+    → ((first + n) * w ≤ length s) × (length (take (first + n - first) (drop first rows)) ≡ n)
+    × (concat (take (first + n - first) (drop first rows)) ≡ rows_of w s first n)
+part_of w first n s rows is h =
+    let e : first + n - first ≡ n = omega arith in
+    let all : length rows ≡ length s / w = ap length is ∙ length_of w (length s / w) s in
+    (omega (arith, mul-le-mul_right w h, div-mul-le_self (length s) w), simp (e, length-take, length-drop) (omega arith), rw (e, is) (words_within w (length s / w) first n s h))
 
 -- ---- rows of w words each
 abbrev pub Whole : ℕ → List (List ℕ) → Type 0

@@ -1,5 +1,5 @@
 -- A row of transitions, one turn of its loop at a time: the refusals and the sum together. Assumes nothing.
-use Rattle.std.proofs.Common.{◌≡◌, ℕ, zero, suc, ◌+◌, ◌*◌, ◌-◌, ◌/◌, ◌%◌, ◌≤◌, ◌<◌, List, [], ◌∷◌, length, get_or, take, drop, length-take, length-drop, refl, sym, ap, ◌∙◌, arith, eqb, ne_eqb}
+use Rattle.std.proofs.Common.{◌≡◌, ℕ, zero, suc, ◌+◌, ◌*◌, ◌-◌, ◌%◌, ◌≤◌, ◌<◌, List, [], ◌∷◌, length, get_or, drop, refl, sym, ap, ◌∙◌, arith, eqb, ne_eqb}
 use Rattle.std.proofs.lemmas.Bool.{le-leb, lt-leb}
 use Rattle.std.specs.Prelude.{Bool, true, false, cond, Float, leb}
 use native.Mathlib.Nat.{sub-zero, zero-mul}
@@ -13,8 +13,7 @@ use Rattle.machine.specs.State.{target_at, probability_at, rows_of}
 use Rattle.rows.specs.First.{or_else, first_refusal}
 use Rattle.rows.specs.Row.{is_target, probability_word, transition_refusal, seen_in, seen_before, sum_from, sum_refusal, row_refusal, pair_refusal}
 use Rattle.rows.specs.First.Laws.{refused, second, former, first_on, first_here, first_end}
-use Rattle.rows.proofs.Chunks.{Whole, word_of, words_within, length_of}
-use Rattle.std.specs.Simd.{first_chunks}
+use Rattle.rows.proofs.Chunks.{Whole, word_of}
 
 -- the refusal of transition i of a row
 abbrev pub at : List ℕ → ℕ → ℕ → ℕ
@@ -222,20 +221,16 @@ module _ (ts : List ℕ) (first count : ℕ) where
       let e : first + 0 ≡ first = omega arith in
       rw (first-in n count 0 (omega arith), sum-in count 0 (of_bits binary32 0) (omega arith), e)
 
-module _ (ts : List ℕ) (n first count : ℕ) (some : 0 < count) where
-  pub beyond : length ts < (first + count) * 2 → 8 ≡ pair_refusal ts n first count
+module _ (ts : List ℕ) (n first count : ℕ) where
+  pub no_row : count ≡ 0 → 0 ≡ pair_refusal ts n first count
   unfolding pair_refusal
-  beyond h = rw (ne_eqb count 0 (λ z. omega (arith, z)), lt-leb _ _ h)
+  no_row e = rw e
 
-  pub within : (first + count) * 2 ≤ length ts → row_refusal (rows_of 2 ts first count) n 0 count ≡ pair_refusal ts n first count
+  pub beyond : (count ≡ 0 → ⊥) → length ts < (first + count) * 2 → 8 ≡ pair_refusal ts n first count
   unfolding pair_refusal
-  within h = rw (ne_eqb count 0 (λ z. omega (arith, z)), le-leb _ _ h) (row_in ts first count n)
+  beyond some h = rw (ne_eqb count 0 some, lt-leb _ _ h)
 
-  -- the row's arrays, of the table's
-  pub lies : (rows : List (List ℕ)) → rows ≡ first_chunks 2 (length ts / 2) ts → first + count ≤ length ts / 2
-      → row_refusal (concat (take (first + count - first) (drop first rows))) n 0 (length (take (first + count - first) (drop first rows)))
-      ≡ pair_refusal ts n first count
-  lies rows is h =
-      let e : first + count - first ≡ count = omega arith in
-      let some' : length (take count (drop first rows)) ≡ count = simp (length-take, length-drop) (omega (arith, length_of 2 (length ts / 2) ts, ap length is)) in
-      rw (e, some', is, words_within 2 (length ts / 2) first count ts h) (within (omega arith))
+  pub within : (count ≡ 0 → ⊥) → (first + count) * 2 ≤ length ts → (words : List ℕ) (k : ℕ) → words ≡ rows_of 2 ts first count → k ≡ count
+      → row_refusal words n 0 k ≡ pair_refusal ts n first count
+  unfolding pair_refusal
+  within some h words k is all = rw (is, all, ne_eqb count 0 some, le-leb _ _ h) (row_in ts first count n)

@@ -7,11 +7,12 @@
 // repeats a target, so no walk is longer than n + 3.
 #![tactic(auto)]
 
-ghost use Rattle.std.specs.Prelude.{◌≡◌, ◌+◌, ◌*◌, ◌%◌, ◌≤◌, ◌<◌, [], ◌∷◌, length};
+ghost use Rattle.std.specs.Prelude.{◌≡◌, ◌+◌, ◌*◌, ◌%◌, ◌≤◌, ◌<◌, [], ◌∷◌, length, MatchOption};
 ghost use Rattle.std.specs.Float.{binary32};
 ghost use Rattle.std.specs.Float.Ieee.{of_bits};
 ghost use Rattle.std.specs.List.{concat};
 ghost use Rattle.machine.specs.Constants.{state_max};
+ghost use Rattle.machine.specs.State.{rows_of};
 ghost use Rattle.refusal.specs.Refusal.{refusal_of};
 ghost use Rattle.rows.specs.Row as Spec;
 
@@ -45,6 +46,29 @@ pub struct Transitions<'a> {
     pub words: &'a [u64],
     pub states: u64,
     pub ghost few: { states ≤ state_max },
+}
+
+// ---- rows of a table
+
+// The `count` rows of so many words from row `first` on; none where they reach beyond the table.
+pub fn rows_within<const WORDS: usize>(
+    table: &[u64],
+    first: u64,
+    count: u64,
+) -> Option<&[[u64; WORDS]]>
+    requires { 0 < WORDS }
+    ensures { MatchOption result (length table.now < (first + count) * WORDS) (λ rows.
+        ((first + count) * WORDS ≤ length table.now) × (length rows.now ≡ count) × (concat rows.now ≡ rows_of WORDS table.now first count)) }
+{
+    let (rows, _) = table.as_chunks::<WORDS>();
+    let first = first as usize;
+    let count = count as usize;
+    let last = rows.len().checked_sub(count)?;
+    if first <= last {
+        Some(&rows[first..first + count])
+    } else {
+        None
+    }
 }
 
 // ---- one transition
@@ -98,12 +122,17 @@ fn check_in_order(transition: &Transition, n: u64, seen: bool) -> Result<(), Ref
 
 // The same. Most transitions go to a state of the machine with a probability above 0 up to 1: such a
 // one is refused only where its target repeats.
+#[tactic(auto, using(crate::proofs::Words::usual))]
 fn check_transition(transition: &Transition, n: u64, seen: bool) -> Result<(), Refusal>
     ensures { refusal_of result ≡ Spec.transition_refusal transition.now n 0 seen }
 {
     let [target, word] = *transition;
-    if target < n && word != 0 && word <= ONE && !seen {
-        Ok(())
+    if target < n && word != 0 && word <= ONE {
+        if seen {
+            Err(Refusal::RepeatedTarget)
+        } else {
+            Ok(())
+        }
     } else {
         check_in_order(transition, n, seen)
     }
@@ -180,17 +209,16 @@ fn check_row(row: &[Transition], n: u64) -> Result<(), Refusal>
 }
 
 impl Transitions<'_> {
-    // A pair (first, count) with rows: that they are within the table, then each.
+    // A pair (first, count): that its rows are within the table, then each. With a count of 0 it has none.
     pub fn check_pair(&self, first: u64, count: u64) -> Result<(), Refusal>
-        requires { 0 < count }
         ensures { refusal_of result ≡ Spec.pair_refusal self.now.words.now self.now.states first count }
     {
-        let (rows, _) = self.words.as_chunks::<TRANSITION_WORDS>();
-        let first = first as usize;
-        let count = count as usize;
-        match rows.len().checked_sub(count) {
-            Some(last) if first <= last => check_row(&rows[first..first + count], self.states),
-            _ => Err(Refusal::RowBeyondTable),
+        if count == 0 {
+            return Ok(());
+        }
+        match rows_within(self.words, first, count) {
+            Some(row) => check_row(row, self.states),
+            None => Err(Refusal::RowBeyondTable),
         }
     }
 }
