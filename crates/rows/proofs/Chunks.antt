@@ -17,6 +17,12 @@ row_at w (suc k) s (suc i) h =
     let e : w + i * w ≡ suc i * w = omega arith in
     row_at w k (drop w s) i (omega arith) ∙ ap (take (1 * w)) (drop-drop (i * w) w s ∙ ap (λ (m : ℕ). drop m s) e)
 
+-- and its word j
+pub word_at : (w k : ℕ) (s : List ℕ) (i j : ℕ) → i < k → j < w → get_or (get_or (first_chunks w k s) i []) j 0 ≡ get_or s (i * w + j) 0
+unfolding rows_of
+word_at w k s i j h l =
+    ap (λ (row : List ℕ). get_or row j 0) (row_at w k s i h) ∙ get_or-take (1 * w) (drop (i * w) s) j 0 (omega arith) ∙ get_or-drop (i * w) s j 0
+
 pub length_of : (w k : ℕ) (s : List ℕ) → length (first_chunks w k s) ≡ k
 length_of w zero s = refl
 length_of w (suc k) s = ap suc (length_of w k (drop w s))

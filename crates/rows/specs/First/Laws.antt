@@ -40,6 +40,17 @@ module _ (f : ℕ → ℕ) (e i : ℕ) where
   unfolding first_refusal
   first_end h = let none : e - i ≡ zero = omega arith in rw none
 
+-- ---- a loop from i up to e, whose answer x is the first refusal from i on
+module _ (f : ℕ → ℕ) (e i : ℕ) {x : ℕ} (is : x ≡ first_refusal f (e - i) i) where
+  pub loop_stops : i < e → (r : Refusal) → number r ≡ f i → number r ≡ x
+  loop_stops h r p = p ∙ sym (is ∙ first_here f e i h (λ z. refused r (p ∙ z)))
+
+  pub loop_on : i < e → 0 ≡ f i → x ≡ first_refusal f (e - (i + 1)) (i + 1)
+  loop_on h p = is ∙ first_on f e i h (sym p)
+
+  pub loop_ends : e ≤ i → 0 ≡ x
+  loop_ends h = sym (is ∙ first_end f e i h)
+
 -- ---- where it is met, of f at i, i + 1, .., k of them: all are 0, or one is the answer and those before it are 0
 pub data Met (f : ℕ → ℕ) (k i : ℕ) : Type 0 where
   none : first_refusal f k i ≡ 0 → ((j : ℕ) → i ≤ j → j < i + k → f j ≡ 0) → Met f k i
