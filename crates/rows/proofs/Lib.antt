@@ -1,4 +1,5 @@
+pub mod Chunks
 mod Rows
 mod Bits
-mod Seen
+mod Targets
 mod Words

@@ -5,6 +5,7 @@ use native.Mathlib.Omega.{arith}
 use mathlib.Core.Path.{◌≡◌, refl, sym, ◌∙◌, subst}
 use mathlib.Core.List.{List}
 use mathlib.Core.Bool.{Bool, true, false, not, cond, true≢false}
+use lib.ListN.{get_or}
 use lib.IntN.{ℤ}
 use lib.Dec.{T, ltb, lit≤, lit<}
 use lib.Pow.{pow_pos, pow_mono}
@@ -14,8 +15,7 @@ use lib.Ieee.Fits.{down_pos}
 use lib.Ieee.Positive.{first_pos}
 use lib.Ieee.Exact.{HasValue, odd_sign}
 use borrow.Author.Tests.{lt-ltb, ltb-true, ltb-false, le-ltb, lt-leb, ne_eqb}
-use Rattle.machine.specs.State.{target_at}
-use Rattle.rows.specs.Row.{probability_word, is_target, improbable, transition_refusal}
+use Rattle.rows.specs.Row.{is_target, improbable, transition_refusal}
 
 -- ---- a number above 0 and up to 1
 probable : (m : ℕ) (e : ℤ) → 0 < m * up e → m * up e ≤ down e → improbable (fin false m e) ≡ false
@@ -72,9 +72,13 @@ word_number w k =
     subst (λ (b : Bool). T (not b)) (sym (nan_bits_above binary32 w ∙ le-ltb 0x7f80_0000 (w % 0x8000_0000) a)) tt
 
 -- ---- a transition to a state of the machine, with such a word, is refused only where its target repeats
-pub usual : (ts : List ℕ) (n i : ℕ) (seen : Bool) (target w : ℕ) → target ≡ target_at ts i → w ≡ probability_word ts i
-    → target < n → (w ≡ 0 → ⊥) → w ≤ 0x3f80_0000 → transition_refusal ts n i seen ≡ cond seen 11 0
+pub usual : (t : List ℕ) (n : ℕ) (seen : Bool) → get_or t 0 0 < n → (get_or t 1 0 ≡ 0 → ⊥) → get_or t 1 0 ≤ 0x3f80_0000
+    → transition_refusal t n 0 seen ≡ cond seen 11 0
 unfolding transition_refusal is_target
-usual ts n i seen target w p q t h below =
-    let some : 0 < w = pos_of_ne-zero h in
-    rw (sym p, sym q) (simp (lt-leb 0x1_0000_0000 w (lt_of_le_of_lt below (lit< tt)), lt-ltb target n t, word_probable w some below))
+usual t n seen h some below =
+    rw (zero-mul 2)
+    (simp (
+      lt-leb 0x1_0000_0000 (get_or t 1 0) (lt_of_le_of_lt below (lit< tt)),
+      lt-ltb (get_or t 0 0) n h,
+      word_probable (get_or t 1 0) (pos_of_ne-zero some) below,
+    ))

@@ -1,5 +1,4 @@
-// state.rs, `State::validate`: refusals 8 to 13 of a row of transitions, in one pass. `n` is the
-// number of the machine's states.
+// state.rs, `State::validate`: refusals 8 to 13 of a row of transitions, in one pass.
 //
 // Most rows have one transition or two, and are checked without a loop. In another short row a
 // repeated target is found by looking back over it, at most 496 comparisons for 32 transitions. A
@@ -8,269 +7,218 @@
 // repeats a target, so no walk is longer than n + 3.
 #![tactic(auto)]
 
-ghost use Rattle.std.specs.Prelude.{◌≡◌, false, ℕ, ◌+◌, ◌-◌, ◌*◌, ◌≤◌, ◌<◌, length, get_or};
+ghost use Rattle.std.specs.Prelude.{◌≡◌, ◌+◌, ◌*◌, ◌%◌, ◌≤◌, ◌<◌, [], ◌∷◌, length, MatchOption};
+ghost use Rattle.std.specs.Float.{binary32};
+ghost use Rattle.std.specs.Float.Ieee.{of_bits};
+ghost use Rattle.std.specs.List.{concat};
 ghost use Rattle.machine.specs.Constants.{state_max};
-ghost use Rattle.machine.specs.State.{target_at, probability_at};
+ghost use Rattle.machine.specs.State.{rows_of};
+ghost use Rattle.refusal.specs.Refusal.{refusal_of};
 ghost use Rattle.rows.specs.Row as Spec;
-ghost use Rattle.rows.specs.Marks.{is_marked};
 
 use machine::constants::{STATE_END, STATE_SIGNAL, TRANSITION_WORDS};
+use marks::Marks;
+use refusal::Refusal;
+use seen::{LookBack, Seen};
 
 mod marks; // the targets met in a long row
+mod seen; // targets seen before in a row
 
 // The most transitions of a row that is looked back over: to clear marks would cost more.
 const SHORT_ROW: usize = 32;
 
-// The most states whose marks fit 16 words.
+// The most states whose marks fit `FEW_MARKS` words; any machine's fit `ALL_MARKS`.
 const FEW_STATES: u64 = 1022;
+
+const FEW_MARKS: usize = 16;
+
+const ALL_MARKS: usize = 1563;
 
 // The word of the probability 1. The words of those above 0 up to 1 are 1 to this one.
 const ONE: u64 = 0x3f80_0000;
 
+// A target, and the word of its probability.
+type Transition = [u64; TRANSITION_WORDS];
+
+// The transition table, as a machine with so many states reads it.
+#[derive(Clone, Copy)]
+pub struct Transitions<'a> {
+    pub words: &'a [u64],
+    pub states: u64,
+    pub ghost few: { states ≤ state_max },
+}
+
+// ---- rows of a table
+
+// The `count` rows of so many words from row `first` on; none where they reach beyond the table.
+pub fn rows_within<const WORDS: usize>(
+    table: &[u64],
+    first: u64,
+    count: u64,
+) -> Option<&[[u64; WORDS]]>
+    requires { 0 < WORDS }
+    ensures { MatchOption result (length table.now < (first + count) * WORDS) (λ rows.
+        ((first + count) * WORDS ≤ length table.now) × (length rows.now ≡ count) × (concat rows.now ≡ rows_of WORDS table.now first count)) }
+{
+    let (rows, _) = table.as_chunks::<WORDS>();
+    let first = first as usize;
+    let count = count as usize;
+    let last = rows.len().checked_sub(count)?;
+    if first <= last {
+        Some(&rows[first..first + count])
+    } else {
+        None
+    }
+}
+
 // ---- one transition
 
-// The target of transition i.
-fn target_at(transitions: &[u64], i: usize) -> u64
-    requires { (i + 1) * 2 ≤ length transitions.now }
-    ensures { result ≡ target_at transitions.now i }
+// The probability of a word. Up to ONE it is no NaN pattern.
+#[tactic(auto, using(crate::proofs::Words::word_number))]
+fn probability(word: u64) -> f32
+    ensures { result ≡ of_bits binary32 (word % 4294967296) }
 {
-    transitions[i * TRANSITION_WORDS]
-}
-
-// The word of its probability.
-fn probability_word(transitions: &[u64], i: usize) -> u64
-    requires { (i + 1) * 2 ≤ length transitions.now }
-    ensures { result ≡ Spec.probability_word transitions.now i }
-{
-    transitions[i * TRANSITION_WORDS + 1]
-}
-
-// Its probability. A word up to ONE is no NaN pattern.
-fn probability_at(transitions: &[u64], i: usize) -> f32
-    requires { (i + 1) * 2 ≤ length transitions.now }
-    ensures { result ≡ probability_at transitions.now i }
-{
-    let word = probability_word(transitions, i);
     if word <= ONE {
-        return f32::from_bits(word as u32);
+        f32::from_bits(word as u32)
+    } else {
+        numbers::f32_of_word(word)
     }
-    numbers::f32_of_word(word)
 }
 
 // A state of the machine, or a special one.
+#[tactic(auto, unfolding(crate::specs::Row::is_target))]
 fn is_target(n: u64, target: u64) -> bool
     ensures { result ≡ Spec.is_target n target }
 {
-    if target < n {
-        return true;
-    }
-    if target == STATE_END {
-        return true;
-    }
-    target == STATE_SIGNAL
+    target < n || target == STATE_END || target == STATE_SIGNAL
 }
 
 // At or below 0, or above 1: a NaN passes.
+#[tactic(auto, unfolding(crate::specs::Row::improbable))]
 fn improbable(p: f32) -> bool
     ensures { result ≡ Spec.improbable p }
 {
-    if p <= 0.0 {
-        return true;
-    }
-    p > 1.0
+    p <= 0.0 || p > 1.0
 }
 
-// Refusals 9 to 12 of transition i, test by test; `seen`: its target stood in its row before.
-fn check_in_order(transitions: &[u64], n: u64, i: usize, seen: bool) -> u64
-    requires { (i + 1) * 2 ≤ length transitions.now }
-    ensures { result ≡ Spec.transition_refusal transitions.now n i seen }
+// Refusals 9 to 12 of a transition, test by test; `seen`: its target stood in its row before.
+#[tactic(auto, unfolding(crate::specs::Row::transition_refusal))]
+fn check_in_order(transition: &Transition, n: u64, seen: bool) -> Result<(), Refusal>
+    ensures { refusal_of result ≡ Spec.transition_refusal transition.now n 0 seen }
 {
-    if probability_word(transitions, i) >= 4294967296 {
-        return 9;
+    let [target, word] = *transition;
+    if word >= 4294967296 {
+        Err(Refusal::ProbabilityWord)
+    } else if !is_target(n, target) {
+        Err(Refusal::UnknownTarget)
+    } else if seen {
+        Err(Refusal::RepeatedTarget)
+    } else if improbable(probability(word)) {
+        Err(Refusal::Probability)
+    } else {
+        Ok(())
     }
-    if is_target(n, target_at(transitions, i)) {
-        if seen {
-            return 11;
-        }
-        if improbable(probability_at(transitions, i)) {
-            return 12;
-        }
-        return 0;
-    }
-    10
 }
 
 // The same. Most transitions go to a state of the machine with a probability above 0 up to 1: such a
 // one is refused only where its target repeats.
-fn check_transition(transitions: &[u64], n: u64, i: usize, seen: bool) -> u64
-    requires { (i + 1) * 2 ≤ length transitions.now }
-    ensures { result ≡ Spec.transition_refusal transitions.now n i seen }
+#[tactic(auto, using(crate::proofs::Words::usual))]
+fn check_transition(transition: &Transition, n: u64, seen: bool) -> Result<(), Refusal>
+    ensures { refusal_of result ≡ Spec.transition_refusal transition.now n 0 seen }
 {
-    let word = probability_word(transitions, i);
-    if target_at(transitions, i) < n && word != 0 && word <= ONE {
+    let [target, word] = *transition;
+    if target < n && word != 0 && word <= ONE {
         if seen {
-            return 11;
+            Err(Refusal::RepeatedTarget)
+        } else {
+            Ok(())
         }
-        return 0;
+    } else {
+        check_in_order(transition, n, seen)
     }
-    check_in_order(transitions, n, i, seen)
 }
 
 // Refusal 13.
-fn check_sum(sum: f32) -> u64
-    ensures { result ≡ Spec.sum_refusal sum }
+#[tactic(auto, unfolding(crate::specs::Row::sum_refusal))]
+fn check_sum(sum: f32) -> Result<(), Refusal>
+    ensures { refusal_of result ≡ Spec.sum_refusal sum }
 {
     if improbable(sum) {
-        return 13;
+        Err(Refusal::ProbabilitySum)
+    } else {
+        Ok(())
     }
-    0
-}
-
-// ---- rows of one transition or two
-
-fn check_one_or_two(transitions: &[u64], n: u64, first: usize, end: usize) -> u64
-    requires some { first < end }
-    requires short { end ≤ first + 2 }
-    requires inside { end * 2 ≤ length transitions.now }
-    ensures { result ≡ Spec.row_refusal transitions.now n first (end - first) }
-{
-    let refusal = check_transition(transitions, n, first, false);
-    if refusal != 0 {
-        return refusal;
-    }
-    let none: f32 = 0.0;
-    let sum = none + probability_at(transitions, first);
-    let last = first + 1;
-    if last == end {
-        return check_sum(sum);
-    }
-    let seen = target_at(transitions, first) == target_at(transitions, last);
-    let refusal = check_transition(transitions, n, last, seen);
-    if refusal != 0 {
-        return refusal;
-    }
-    check_sum(sum + probability_at(transitions, last))
-}
-
-// ---- short rows: look back over the row
-
-// Whether transition i has the target of an earlier one.
-fn seen_before(transitions: &[u64], first: usize, i: usize) -> bool
-    requires from_first { first ≤ i }
-    requires inside { (i + 1) * 2 ≤ length transitions.now }
-    ensures { result ≡ Spec.seen_before transitions.now first i }
-{
-    let target = target_at(transitions, i);
-    let mut j = first;
-    while j < i {
-        if target_at(transitions, j) == target {
-            return true;
-        }
-        j = j + 1;
-    }
-    false
-}
-
-// One turn a transition: its refusals, then its part of the sum.
-fn check_short_row(transitions: &[u64], n: u64, first: usize, end: usize) -> u64
-    requires in_order { first ≤ end }
-    requires inside { end * 2 ≤ length transitions.now }
-    ensures { result ≡ Spec.row_refusal transitions.now n first (end - first) }
-{
-    let mut sum: f32 = 0.0;
-    let mut i = first;
-    while i < end {
-        let seen = seen_before(transitions, first, i);
-        let refusal = check_transition(transitions, n, i, seen);
-        if refusal != 0 {
-            return refusal;
-        }
-        sum = sum + probability_at(transitions, i);
-        i = i + 1;
-    }
-    check_sum(sum)
-}
-
-// ---- long rows: mark the targets that were met
-
-// With a clear mark for each target that there is.
-fn check_marked_row(transitions: &[u64], n: u64, first: usize, end: usize, marks: &mut [u64]) -> u64
-    requires few_states { n ≤ state_max }
-    requires in_order { first ≤ end }
-    requires inside { end * 2 ≤ length transitions.now }
-    requires room { n + 2 ≤ length marks.old * 64 }
-    requires unmarked { ((m : ℕ) → is_marked marks.old m ≡ false) }
-    ensures { result ≡ Spec.row_refusal transitions.now n first (end - first) }
-{
-    let mut sum: f32 = 0.0;
-    let mut i = first;
-    while i < end {
-        let seen = marks::meet(marks, n, target_at(transitions, i));
-        let refusal = check_transition(transitions, n, i, seen);
-        if refusal != 0 {
-            return refusal;
-        }
-        sum = sum + probability_at(transitions, i);
-        i = i + 1;
-    }
-    check_sum(sum)
-}
-
-// A row of a machine with few states, and so with few marks to clear.
-fn check_row_of_few(transitions: &[u64], n: u64, first: usize, end: usize) -> u64
-    requires few_states { n ≤ 1022 }
-    requires in_order { first ≤ end }
-    requires inside { end * 2 ≤ length transitions.now }
-    ensures { result ≡ Spec.row_refusal transitions.now n first (end - first) }
-{
-    let mut marks = [0; 16];
-    check_marked_row(transitions, n, first, end, &mut marks)
-}
-
-// A row of any machine.
-fn check_row_of_many(transitions: &[u64], n: u64, first: usize, end: usize) -> u64
-    requires few_states { n ≤ state_max }
-    requires in_order { first ≤ end }
-    requires inside { end * 2 ≤ length transitions.now }
-    ensures { result ≡ Spec.row_refusal transitions.now n first (end - first) }
-{
-    let mut marks = [0; 1563];
-    check_marked_row(transitions, n, first, end, &mut marks)
 }
 
 // ---- a row
 
-// The transitions from row `first` to row `end`.
-fn check_row(transitions: &[u64], n: u64, first: usize, end: usize) -> u64
-    requires { (n ≤ state_max) × ((first < end) × (end * 2 ≤ length transitions.now)) }
-    ensures { result ≡ Spec.row_refusal transitions.now n first (end - first) }
+fn check_one(only: &Transition, n: u64) -> Result<(), Refusal>
+    ensures { refusal_of result ≡ Spec.row_refusal (concat (only.now ∷ [])) n 0 1 }
 {
-    if end - first <= 2 {
-        return check_one_or_two(transitions, n, first, end);
-    }
-    if end - first <= SHORT_ROW {
-        return check_short_row(transitions, n, first, end);
-    }
-    if n <= FEW_STATES {
-        return check_row_of_few(transitions, n, first, end);
-    }
-    check_row_of_many(transitions, n, first, end)
+    let none: f32 = 0.0;
+    check_transition(only, n, false)?;
+    check_sum(none + probability(only[1]))
 }
 
-// A pair (first, count) with rows: that they are within the table, then each.
-pub fn check_pair(transitions: &[u64], n: u64, first: u64, count: u64) -> u64
-    requires few_states { n ≤ state_max }
-    requires some { 0 < count }
-    ensures { result ≡ Spec.pair_refusal transitions.now n first count }
+fn check_two(first: &Transition, last: &Transition, n: u64) -> Result<(), Refusal>
+    ensures { refusal_of result ≡ Spec.row_refusal (concat (first.now ∷ last.now ∷ [])) n 0 2 }
 {
-    let first = first as usize;
-    let count = count as usize;
-    let rows = transitions.len() / TRANSITION_WORDS;
-    if rows < count {
-        return 8;
+    let none: f32 = 0.0;
+    check_transition(first, n, false)?;
+    let sum = none + probability(first[1]);
+    let seen = first[0] == last[0];
+    check_transition(last, n, seen)?;
+    check_sum(sum + probability(last[1]))
+}
+
+// One turn a transition: its refusals, then its part of the sum.
+fn check_each<S: Seen>(row: &[Transition], n: u64, met: &mut S) -> Result<(), Refusal>
+    requires { S.Holds met.old (concat row.now) n 0 }
+    ensures { refusal_of result ≡ Spec.row_refusal (concat row.now) n 0 (length row.now) }
+{
+    let mut sum: f32 = 0.0;
+    for (i, transition) in row.iter().enumerate() {
+        let seen = met.seen(row, n, i);
+        check_transition(transition, n, seen)?;
+        sum += probability(transition[1]);
     }
-    if rows - count < first {
-        return 8;
+    check_sum(sum)
+}
+
+// With a clear mark for each target that there is.
+fn check_marked<const WORDS: usize>(row: &[Transition], n: u64) -> Result<(), Refusal>
+    requires few_states { n ≤ state_max }
+    requires room { n + 2 ≤ WORDS * 64 }
+    requires few_words { WORDS ≤ ALL_MARKS }
+    ensures { refusal_of result ≡ Spec.row_refusal (concat row.now) n 0 (length row.now) }
+{
+    check_each(row, n, &mut Marks { words: [0; WORDS] })
+}
+
+fn check_row(row: &[Transition], n: u64) -> Result<(), Refusal>
+    requires { n ≤ state_max }
+    ensures { refusal_of result ≡ Spec.row_refusal (concat row.now) n 0 (length row.now) }
+{
+    match row {
+        [only] => check_one(only, n),
+        [first, last] => check_two(first, last, n),
+        _ if row.len() <= SHORT_ROW => check_each(row, n, &mut LookBack),
+        _ if n <= FEW_STATES => check_marked::<FEW_MARKS>(row, n),
+        _ => check_marked::<ALL_MARKS>(row, n),
     }
-    check_row(transitions, n, first, first + count)
+}
+
+impl Transitions<'_> {
+    // A pair (first, count): that its rows are within the table, then each. With a count of 0 it has none.
+    pub fn check_pair(&self, first: u64, count: u64) -> Result<(), Refusal>
+        ensures { refusal_of result ≡ Spec.pair_refusal self.now.words.now self.now.states first count }
+    {
+        if count == 0 {
+            return Ok(());
+        }
+        match rows_within(self.words, first, count) {
+            Some(row) => check_row(row, self.states),
+            None => Err(Refusal::RowBeyondTable),
+        }
+    }
 }

@@ -1,54 +1,56 @@
 // The targets of a long row that were met: a mark for each, a bit of a word. A machine of 100,000
 // states has 12 KB of marks.
-ghost use Rattle.std.specs.Prelude.{◌≡◌, ◌+◌, ◌*◌, ◌≤◌, ◌<◌, length};
-ghost use Rattle.machine.specs.Constants.{state_max};
-ghost use Rattle.rows.specs.Marks.{mark_of, is_marked, marked};
+#![tactic(auto)]
 
+ghost use Rattle.std.specs.Prelude.{◌≡◌, ℕ, ◌+◌, ◌*◌, ◌≤◌, ◌<◌, length};
+ghost use Rattle.std.specs.List.{concat};
+ghost use Rattle.machine.specs.Constants.{state_max};
+ghost use Rattle.rows.specs.Marks.{mark_of, is_marked, marked, Met};
+
+use super::Transition;
+use super::seen::Seen;
 use machine::constants::STATE_END;
 
-// The mark of a target: its state's number, then END's and SIGNAL's.
+// A mark for each state's number, then END's and SIGNAL's.
+#[derive(Drop)]
+pub struct Marks<const WORDS: usize> {
+    pub words: [u64; WORDS],
+}
+
+// The mark of a target.
+#[tactic(auto, unfolding(crate::specs::Marks::mark_of))]
 fn mark_of(n: u64, target: u64) -> usize
     requires { n ≤ state_max }
     ensures is { result ≡ mark_of n target }
     ensures within { result < n + 2 }
 {
     if target < n {
-        return target as usize;
+        target as usize
+    } else if target == STATE_END {
+        n as usize
+    } else {
+        n as usize + 1
     }
-    let end = n as usize;
-    if target == STATE_END {
-        return end;
+}
+
+impl<const WORDS: usize> Marks<WORDS> {
+    // Whether mark m is set; from now on it is.
+    fn meet(&mut self, m: usize) -> bool
+        requires { m < WORDS * 64 }
+        ensures met { result ≡ is_marked self.old.words m }
+        ensures more { self.new.words ≡ marked self.old.words m }
+    {
+        let word = self.words[m / 64];
+        self.words[m / 64] = word | 1 << (m % 64);
+        (word >> (m % 64)) % 2 == 1
     }
-    end + 1
 }
 
-// Whether mark m is set.
-fn is_marked(marks: &[u64], m: usize) -> bool
-    requires { m < length marks.now * 64 }
-    ensures { result ≡ is_marked marks.now m }
-{
-    (marks[m / 64] >> (m % 64)) % 2 == 1
-}
+impl<const WORDS: usize> Seen for Marks<WORDS> {
+    ghost Holds = { λ m ts n i. (n ≤ state_max) × (n + 2 ≤ WORDS * 64) × Met m.words ts n 0 i };
 
-// Sets mark m.
-fn mark(marks: &mut [u64], m: usize)
-    requires { m < length marks.old * 64 }
-    ensures { marks.new ≡ marked marks.old m }
-{
-    let at = m / 64;
-    let bit: u64 = 1 << (m % 64);
-    marks[at] = marks[at] | bit;
-}
-
-// Whether a target was met before; from now on it was.
-pub fn meet(marks: &mut [u64], n: u64, target: u64) -> bool
-    requires few_states { n ≤ state_max }
-    requires room { n + 2 ≤ length marks.old * 64 }
-    ensures { (result ≡ is_marked marks.old (mark_of n target))
-        × (marks.new ≡ marked marks.old (mark_of n target)) }
-{
-    let m = mark_of(n, target);
-    let met = is_marked(marks, m);
-    mark(marks, m);
-    met
+    fn seen(&mut self, row: &[Transition], n: u64, i: usize) -> bool {
+        let [target, _] = row[i];
+        self.meet(mark_of(n, target))
+    }
 }

@@ -1,20 +1,18 @@
 -- Which distributions can be invalid: a Uniform, by its bounds. Assumes nothing.
-use Prim.Native.Nat.{ℕ}
-use mathlib.Core.Path.{◌≡◌, refl}
-use mathlib.Core.Bool.{Bool, true, false, cond, not}
-use lib.Dec.{eqb}
-use lib.Ieee.{Float}
-use Rattle.dists.specs.Dist.{dist_type, valid_type, valid_uniform}
+use Rattle.std.proofs.Common.{◌≡◌, ℕ, ◌+◌, List, Bool, true, false, cond, not, ◌&&◌, eqb, eqb-true, get_or, refl}
+use Rattle.dists.specs.Dist.{f64_at, dist_type, dist_at, valid_type, valid_uniform, validate}
 use Rattle.dists.specs.declared.DistType.TheVariants.{Absent, Outside}
+use Rattle.tables.specs.State.{invalid}
 
 other : (b : Bool) → not (valid_type (cond b Absent Outside)) ≡ false
 other true = refl
 other false = refl
 
-pub not_uniform : (kind : ℕ) (low high : Float) → eqb kind 1 ≡ false → not (valid_type (dist_type kind low high)) ≡ false
-unfolding dist_type
-not_uniform kind low high e = rw e (other (eqb kind 0))
-
-pub uniform : (kind : ℕ) (low high : Float) → kind ≡ 1 → valid_type (dist_type kind low high) ≡ valid_uniform low high
-unfolding dist_type
-uniform kind low high e = rw e
+pub invalid_is : (row : List ℕ) (k : ℕ) → invalid row k ≡ (eqb (get_or row k 0) 1 && not (valid_uniform (f64_at row (k + 1)) (f64_at row (k + 2))))
+unfolding invalid dist_at dist_type validate
+invalid_is row k = either (eqb (get_or row k 0) 1) refl
+  where
+    either : (b : Bool) → eqb (get_or row k 0) 1 ≡ b
+        → invalid row k ≡ (b && not (valid_uniform (f64_at row (k + 1)) (f64_at row (k + 2))))
+    either true e = rw (eqb-true (get_or row k 0) 1 e)
+    either false e = rw e (other (eqb (get_or row k 0) 0))

@@ -1,3 +1,3 @@
-mod Dists
+pub mod Dists
 pub mod Parts
 pub mod Valid

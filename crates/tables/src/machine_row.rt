@@ -1,76 +1,67 @@
 // machine.rs, `Machine::validate`: refusals 4 to 7, then the machine's states.
+#![tactic(auto)]
+
 ghost use Rattle.std.specs.Prelude.{◌≡◌, ◌*◌, ◌≤◌, length};
-ghost use Rattle.machine.specs.Constants.{machine_words, state_words, state_max};
+ghost use Rattle.std.specs.List.{concat};
+ghost use Rattle.refusal.specs.Refusal.{refusal_of};
 ghost use Rattle.tables.specs.Machine.{beyond_fraction, machine_refusal, states_refusal, each_state};
 
 use machine::constants::{
-    FIRST_STATE, MAX_BLOCKING_FRAC, MAX_PADDING_FRAC, NUM_STATES, STATE_MAX, STATE_WORDS,
+    FIRST_STATE, MACHINE_WORDS, MAX_BLOCKING_FRAC, MAX_PADDING_FRAC, NUM_STATES, STATE_MAX,
+    STATE_WORDS,
 };
+use machine::tables::Tables;
+use refusal::Refusal;
+use rows::Transitions;
 
 // Below 0 or above 1: a NaN passes.
+#[tactic(auto, unfolding(crate::specs::Machine::beyond_fraction))]
 fn beyond_fraction(x: f64) -> bool
     ensures { result ≡ beyond_fraction x }
 {
-    if x < 0.0 {
-        return true;
-    }
-    x > 1.0
+    x < 0.0 || x > 1.0
 }
 
-// Each of n states, whose rows are given.
-fn check_each_state(rows: &[u64], transitions: &[u64], n: u64) -> u64
-    requires whole_rows { length rows.now ≡ n * state_words }
-    requires few_states { n ≤ state_max }
-    ensures { result ≡ each_state transitions.now n rows.now }
+// Each of the machine's states, whose rows are given.
+fn check_each_state(rows: &[[u64; STATE_WORDS]], transitions: &Transitions) -> Result<(), Refusal>
+    requires { length rows.now ≡ transitions.now.states }
+    ensures { refusal_of result ≡ each_state transitions.now.words.now transitions.now.states (concat rows.now) }
 {
-    let count = n as usize;
-    let mut i = 0;
-    while i < count {
-        let at = i * STATE_WORDS;
-        let end = at + STATE_WORDS;
-        let refusal = super::state::check_state(transitions, n, &rows[at..end]);
-        if refusal != 0 {
-            return refusal;
-        }
-        i = i + 1;
+    for row in rows {
+        super::state::check_state(row, transitions)?;
     }
-    0
+    Ok(())
 }
 
 // The number of the states and their place. A first row near 2^64 is caught before any sum.
-fn check_states(states: &[u64], transitions: &[u64], first: u64, n: u64) -> u64
-    ensures { result ≡ states_refusal states.now transitions.now first n }
+fn check_states(t: &Tables, first: u64, n: u64) -> Result<(), Refusal>
+    ensures { refusal_of result ≡ states_refusal t.now.states.now t.now.transitions.now first n }
 {
-    if n == 0 {
-        return 6;
+    if n == 0 || n > STATE_MAX {
+        return Err(Refusal::StateCount);
     }
-    if n > STATE_MAX {
-        return 6;
+    match rows::rows_within(t.states, first, n) {
+        Some(rows) => check_each_state(
+            rows,
+            &Transitions {
+                words: t.transitions,
+                states: n,
+            },
+        ),
+        None => Err(Refusal::StatesBeyondTable),
     }
-    let rows = states.len() / STATE_WORDS;
-    let count = n as usize;
-    if rows < count {
-        return 7;
-    }
-    let row = first as usize;
-    if rows - count < row {
-        return 7;
-    }
-    let start = row * STATE_WORDS;
-    let end = start + count * STATE_WORDS;
-    check_each_state(&states[start..end], transitions, n)
 }
 
-// One machine, whose six words are `row`.
-pub fn check_machine(row: &[u64], states: &[u64], transitions: &[u64]) -> u64
-    requires { length row.now ≡ machine_words }
-    ensures { result ≡ machine_refusal states.now transitions.now row.now }
+// One machine.
+#[tactic(auto, unfolding(crate::specs::Machine::machine_refusal))]
+pub fn check_machine(row: &[u64; MACHINE_WORDS], t: &Tables) -> Result<(), Refusal>
+    ensures { refusal_of result ≡ machine_refusal t.now.states.now t.now.transitions.now row.now }
 {
     if beyond_fraction(numbers::f64_of_word(row[MAX_PADDING_FRAC])) {
-        return 4;
+        Err(Refusal::MachinePadding)
+    } else if beyond_fraction(numbers::f64_of_word(row[MAX_BLOCKING_FRAC])) {
+        Err(Refusal::MachineBlocking)
+    } else {
+        check_states(t, row[FIRST_STATE], row[NUM_STATES])
     }
-    if beyond_fraction(numbers::f64_of_word(row[MAX_BLOCKING_FRAC])) {
-        return 5;
-    }
-    check_states(states, transitions, row[FIRST_STATE], row[NUM_STATES])
 }

@@ -4,7 +4,16 @@ use Rattle.std.proofs.Common.{eq-or-lt_of_le, sym, ◌∙◌, subst, ⊎_elim, e
 use native.Mathlib.Omega.{arith}
 use Rattle.std.specs.Prelude.{◌≡◌, refl, Bool, true, false, eqb}
 use Rattle.std.proofs.lemmas.Bool.{eqb-false}
+use Rattle.refusal.specs.declared.Refusal.{Refusal}
+use Rattle.refusal.specs.Refusal.{number}
 use Rattle.rows.specs.First.{or_else, first_refusal}
+
+-- ---- a refusal is not 0
+pub refused : (r : Refusal) → number r ≡ 0 → ⊥
+refused r e = absurd (omega (arith, positive r, e))
+  where
+    positive : (s : Refusal) → 0 < number s
+    positive s = grind arith
 
 -- ---- one refusal, then another
 pub second : {a b : ℕ} → a ≡ 0 → or_else a b ≡ b
@@ -30,6 +39,17 @@ module _ (f : ℕ → ℕ) (e i : ℕ) where
   pub first_end : e ≤ i → first_refusal f (e - i) i ≡ 0
   unfolding first_refusal
   first_end h = let none : e - i ≡ zero = omega arith in rw none
+
+-- ---- a loop from i up to e, whose answer x is the first refusal from i on
+module _ (f : ℕ → ℕ) (e i : ℕ) {x : ℕ} (is : x ≡ first_refusal f (e - i) i) where
+  pub loop_stops : i < e → (r : Refusal) → number r ≡ f i → number r ≡ x
+  loop_stops h r p = p ∙ sym (is ∙ first_here f e i h (λ z. refused r (p ∙ z)))
+
+  pub loop_on : i < e → 0 ≡ f i → x ≡ first_refusal f (e - (i + 1)) (i + 1)
+  loop_on h p = is ∙ first_on f e i h (sym p)
+
+  pub loop_ends : e ≤ i → 0 ≡ x
+  loop_ends h = sym (is ∙ first_end f e i h)
 
 -- ---- where it is met, of f at i, i + 1, .., k of them: all are 0, or one is the answer and those before it are 0
 pub data Met (f : ℕ → ℕ) (k i : ℕ) : Type 0 where

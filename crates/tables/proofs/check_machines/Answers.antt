@@ -1,28 +1,27 @@
--- `tables::check_machines` meets its contract. The loop's invariant: the answer is the first refusal from machine i on.
+-- `check_machines` meets its contract. The loop's invariant: the answer is the first refusal from this machine on.
 -- Assumes nothing.
-use borrow.Author.Rules.{rules}
-use mathlib.Core.Path.{sym, ◌∙◌}
-use native.Mathlib.Omega.{arith}
+use Rattle.std.proofs.Common.{length}
 use native.Mathlib.Nat.{sub-zero}
-use Rattle.rows.specs.First.Laws.{first_on, first_here, first_end}
-use Rattle.tables.proofs.Parts.{one_row, one_length}
+use Rattle.std.proofs.lemmas.Result.{err_from_is_err_and}
+use Rattle.machine.specs.Constants.{machine_words}
+use Rattle.rows.specs.First.Laws.{loop_stops, loop_on, loop_ends}
+use Rattle.rows.proofs.Chunks.{row_of}
 use Rattle.tables.proofs.check_machines.Goals as goal
 
-pub loop-i-init : goal.loop-i-init
-loop-i-init c = (search rules, rw (sub-zero c.args.n))
+pub loop-row-init : goal.loop-row-init
+loop-row-init c = rw (sub-zero (length c.args.machines.now))
 
-pub check_machine-refusal-requires : goal.check_machine-refusal-requires
-check_machine-refusal-requires c = one_length 6 c.args.machines.now c.loop-i.i (omega (arith, c.loop-i-test.true))
+pub returns-in_err-check_machine : goal.returns-in_err-check_machine
+returns-in_err-check_machine c =
+    let p = err_from_is_err_and c.from_residual.result c.from_residual.ensures.1 in
+    let h = c.loop-row-test.true in
+    rw (p.1, p.2)
+    (loop_stops _ _ _ c.loop-row.invariant h _ (rw (row_of machine_words c.args.machines.now c.told-machines c.loop-row.row-index h) c.in_err-check_machine.ensures))
 
-pub returns-then-refusal-ne0 : goal.returns-then-refusal-ne0
-returns-then-refusal-ne0 c =
-    let e = rw (one_row 6 _ _) at c.check_machine-refusal.ensures in
-    e ∙ sym (c.loop-i.invariant.1 ∙ first_here _ _ _ c.loop-i-test.true (λ z. c.if-refusal-ne0.true (e ∙ z)))
-
-pub loop-i-preserved : goal.loop-i-preserved
-loop-i-preserved c =
-    let e = rw (one_row 6 _ _) at c.check_machine-refusal.ensures in
-    (search rules, c.loop-i.invariant.1 ∙ first_on _ _ _ c.loop-i-test.true (sym e ∙ c.if-refusal-ne0.false))
+pub loop-row-preserved : goal.loop-row-preserved
+loop-row-preserved c =
+    let h = c.loop-row-test.true in
+    loop_on _ _ _ c.loop-row.invariant h (rw (row_of machine_words c.args.machines.now c.told-machines c.loop-row.row-index h) c.in_ok-check_machine.ensures)
 
 pub returns : goal.returns
-returns c = sym (c.loop-i.invariant.1 ∙ first_end _ _ _ c.loop-i-test.false)
+returns c = loop_ends _ _ _ c.loop-row.invariant c.loop-row-test.false

@@ -1,43 +1,28 @@
--- `machine_row::check_each_state` meets its contract. The loop's invariant: the answer is the first refusal from state i on.
+-- `machine_row::check_each_state` meets its contract. The loop's invariant: the answer is the first refusal from this state on.
 -- Assumes nothing.
-use borrow.Author.Rules.{rules}
-use mathlib.Core.Path.{sym, ◌∙◌}
-use native.Mathlib.Omega.{arith}
+use Rattle.std.proofs.Common.{length}
 use native.Mathlib.Nat.{sub-zero}
+use Rattle.std.proofs.lemmas.Result.{err_from_is_err_and}
 use Rattle.machine.specs.Constants.{state_words}
+use Rattle.rows.specs.First.Laws.{loop_stops, loop_on, loop_ends}
+use Rattle.rows.proofs.Chunks.{row_of}
 use Rattle.tables.specs.Machine.{each_state}
-use Rattle.rows.specs.First.Laws.{first_on, first_here, first_end}
-use Rattle.tables.proofs.Parts.{one_row, one_length}
 use Rattle.tables.proofs.machine_row.check_each_state.Goals as goal
 
-pub loop-i-init : goal.loop-i-init
+pub loop-row-init : goal.loop-row-init
 unfolding each_state
-loop-i-init c = (search rules, rw (sub-zero c.args.n))
+loop-row-init c = rw (sub-zero (length c.args.rows.now), c.requires)
 
-pub check_state-refusal-requires : goal.check_state-refusal-requires
-check_state-refusal-requires c = record {
-  few_states = search rules;
-  whole_row = one_length state_words c.args.rows.now
-      c.loop-i.i (omega (
-        arith,
-        c.requires.whole_rows,
-        c.loop-i-test.true,
-      ));
-}
+pub returns-in_err-check_state : goal.returns-in_err-check_state
+returns-in_err-check_state c =
+    let p = err_from_is_err_and c.from_residual.result c.from_residual.ensures.1 in
+    let h = c.loop-row-test.true in
+    rw (p.1, p.2) (loop_stops _ _ _ c.loop-row.invariant h _ (rw (row_of state_words c.args.rows.now c.told-rows c.loop-row.row-index h) c.in_err-check_state.ensures))
 
-pub returns-then-refusal-ne0 : goal.returns-then-refusal-ne0
-returns-then-refusal-ne0 c =
-    let e = rw (one_row state_words _ _) at c.check_state-refusal.ensures in
-    e ∙ sym (c.loop-i.invariant.1 ∙ first_here _ _ _
-    c.loop-i-test.true (λ z. c.if-refusal-ne0.true (e ∙ z)))
-
-pub loop-i-preserved : goal.loop-i-preserved
-loop-i-preserved c =
-    let e = rw (one_row state_words _ _) at c.check_state-refusal.ensures in (
-      search rules,
-      c.loop-i.invariant.1 ∙ first_on _ _ _
-          c.loop-i-test.true (sym e ∙ c.if-refusal-ne0.false),
-    )
+pub loop-row-preserved : goal.loop-row-preserved
+loop-row-preserved c =
+    let h = c.loop-row-test.true in
+    loop_on _ _ _ c.loop-row.invariant h (rw (row_of state_words c.args.rows.now c.told-rows c.loop-row.row-index h) c.in_ok-check_state.ensures)
 
 pub returns : goal.returns
-returns c = sym (c.loop-i.invariant.1 ∙ first_end _ _ _ c.loop-i-test.false)
+returns c = loop_ends _ _ _ c.loop-row.invariant c.loop-row-test.false

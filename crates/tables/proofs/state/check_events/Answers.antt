@@ -1,25 +1,32 @@
 -- `state::check_events` meets its contract. The loop's invariant: the answer is the first refusal from this event on. Assumes nothing.
-use borrow.Author.Rules.{rules}
-use mathlib.Core.Path.{refl, sym, ◌∙◌}
+use Rattle.std.proofs.Common.{refl, arith}
+use Rattle.std.proofs.lemmas.Result.{err_from_is_err_and}
+use Rattle.rows.specs.First.Laws.{loop_stops, loop_on, loop_ends}
 use Rattle.tables.specs.State.{events_refusal}
-use Rattle.rows.specs.First.Laws.{first_on, first_here, first_end}
+use Rattle.tables.proofs.Parts.{many, first_is, count_is}
 use Rattle.tables.proofs.state.check_events.Goals as goal
 
-pub loop-event-init : goal.loop-event-init
+pub loop-first-init : goal.loop-first-init
 unfolding events_refusal
-loop-event-init c = (search rules, refl)
+loop-first-init c = refl
 
-pub returns-then-refusal-ne0 : goal.returns-then-refusal-ne0
-returns-then-refusal-ne0 c =
-    c.check_event-refusal.ensures ∙ sym (c.loop-event.invariant.1 ∙ first_here _ _ _
-    c.loop-event-test.true (λ z. c.if-refusal-ne0.true (c.check_event-refusal.ensures ∙ z)))
+pub returns-in_err-check_pair : goal.returns-in_err-check_pair
+returns-in_err-check_pair c =
+    let p = err_from_is_err_and c.from_residual.result c.from_residual.ensures.1 in
+    let h = c.loop-first-test.true in
+    let f = first_is c.args.row.now _ c.told-row c.as_chunks.ensures.front _ h in
+    let n = count_is c.args.row.now _ c.told-row c.as_chunks.ensures.front _ h in
+    rw (p.1, p.2)
+    (loop_stops _ _ _ c.loop-first.invariant (omega (arith, many c.args.row.now _ c.told-row c.as_chunks.ensures.front)) _
+    (rw (f, n) at c.in_err-check_pair.ensures))
 
-pub loop-event-preserved : goal.loop-event-preserved
-loop-event-preserved c = (
-  search rules,
-  c.loop-event.invariant.1 ∙ first_on _ _ _
-      c.loop-event-test.true (sym c.check_event-refusal.ensures ∙ c.if-refusal-ne0.false),
-)
+pub loop-first-preserved : goal.loop-first-preserved
+loop-first-preserved c =
+    let h = c.loop-first-test.true in
+    let f = first_is c.args.row.now _ c.told-row c.as_chunks.ensures.front _ h in
+    let n = count_is c.args.row.now _ c.told-row c.as_chunks.ensures.front _ h in
+    loop_on _ _ _ c.loop-first.invariant (omega (arith, many c.args.row.now _ c.told-row c.as_chunks.ensures.front))
+    (rw (f, n) at c.in_ok-check_pair.ensures)
 
 pub returns : goal.returns
-returns c = sym (c.loop-event.invariant.1 ∙ first_end _ _ _ c.loop-event-test.false)
+returns c = loop_ends _ _ _ c.loop-first.invariant (omega (arith, many c.args.row.now _ c.told-row c.as_chunks.ensures.front))

@@ -1,45 +1,29 @@
--- `state::check_state` meets its contract: the code's tests in their order are the definition's. Assumes nothing.
-use mathlib.Core.Path.{sym, ◌∙◌}
-use Rattle.rows.specs.First.{or_else}
+-- `state::check_state` meets its contract: the events, then the codes, then the distributions. Assumes nothing.
+use Rattle.std.proofs.Common.{sym, ◌∙◌}
+use Rattle.std.proofs.lemmas.Result.{err_from_is_err_and}
+use Rattle.rows.specs.First.Laws.{refused, former, second}
 use Rattle.tables.specs.State.{state_refusal}
-use Rattle.rows.specs.First.Laws.{former}
 use Rattle.tables.proofs.state.check_state.Goals as goal
 
-pub returns-then-refusal-ne0 : goal.returns-then-refusal-ne0
+pub returns-in_err-check_events : goal.returns-in_err-check_events
 unfolding state_refusal
-returns-then-refusal-ne0 c =
-    c.check_events-refusal.ensures ∙ sym
-    (former _ (λ z. c.if-refusal-ne0.true (c.check_events-refusal.ensures ∙ z)))
+returns-in_err-check_events c =
+    let p = err_from_is_err_and c.from_residual.result c.from_residual.ensures.1 in
+    let e = c.in_err-check_events.ensures in
+    rw (p.1, p.2) (e ∙ sym (former _ (λ z. refused _ (e ∙ z))))
 
 pub returns-then-codes_unknown : goal.returns-then-codes_unknown
-unfolding state_refusal or_else
-returns-then-codes_unknown c =
-    rw (
-      sym c.check_events-refusal.ensures ∙ c.if-refusal-ne0.false,
-      sym
-          c.codes_unknown.ensures ∙ c.if-codes_unknown.true,
-    )
+unfolding state_refusal
+returns-then-codes_unknown c = sym (second (sym c.in_ok-check_events.ensures) ∙ rw (sym c.codes_unknown.ensures ∙ c.if-codes_unknown.true))
 
 pub returns-then-dists_invalid : goal.returns-then-dists_invalid
-unfolding state_refusal or_else
+unfolding state_refusal
 returns-then-dists_invalid c =
-    rw (
-      sym c.check_events-refusal.ensures ∙
-          c.if-refusal-ne0.false,
-      sym
-          c.codes_unknown.ensures ∙ c.if-codes_unknown.false,
-      sym
-          c.dists_invalid.ensures ∙ c.if-dists_invalid.true,
-    )
+    sym (second (sym c.in_ok-check_events.ensures)
+    ∙ rw (sym c.codes_unknown.ensures ∙ c.if-codes_unknown.false, sym c.dists_invalid.ensures ∙ c.if-dists_invalid.true))
 
-pub returns : goal.returns
-unfolding state_refusal or_else
-returns c =
-    rw (
-      sym c.check_events-refusal.ensures ∙
-          c.if-refusal-ne0.false,
-      sym
-          c.codes_unknown.ensures ∙ c.if-codes_unknown.false,
-      sym
-          c.dists_invalid.ensures ∙ c.if-dists_invalid.false,
-    )
+pub returns-else-dists_invalid : goal.returns-else-dists_invalid
+unfolding state_refusal
+returns-else-dists_invalid c =
+    sym (second (sym c.in_ok-check_events.ensures)
+    ∙ rw (sym c.codes_unknown.ensures ∙ c.if-codes_unknown.false, sym c.dists_invalid.ensures ∙ c.if-dists_invalid.false))
