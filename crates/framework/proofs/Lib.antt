@@ -1,5 +1,4 @@
 pub mod Checked
 pub mod Ended
 pub mod Opens
-pub mod Outcomes
 pub mod Written

@@ -1,63 +1,73 @@
 // What a batch refuses beside its tables: a framework that does not fit them (18), and events that
 // are not whole or of an unknown kind (19).
-ghost use Rattle.std.specs.Prelude.{◌≡◌, cond, ◌&&◌, ◌||◌, ◌+◌, eqb, ltb};
-ghost use Rattle.machine.specs.Constants.{state_end};
-ghost use Rattle.steps.specs.Framework.{rows_in, events_fit};
+ghost use Rattle.std.specs.Prelude.{◌≡◌, ◌≤◌};
+ghost use Rattle.machine.specs.Constants.{machine_max};
+ghost use Rattle.machine.specs.Tables.{lent_tables};
+ghost use Rattle.steps.specs.Framework as Spec;
 
-use machine::constants::{MACHINE_WORDS, STATE_END};
+use machine::constants::{MACHINE_WORDS, NUM_STATES, STATE_END};
 use machine::event::TIMER_END_KIND;
+use machine::state::word;
+use machine::tables::Tables;
+use steps::{Framework, MachineRuntime};
 
-// Whether a current state is ended, or one of the machine's.
-pub fn state_fits(current_state: u64, num_states: u64) -> bool
-    ensures { result ≡ (eqb current_state state_end || ltb current_state num_states) }
+// Whether the current states of the first `count` machines are ended, or the machines' own.
+fn states_fit(fw: &Framework, t: &Tables, count: usize) -> bool
+    requires { count ≤ machine_max }
+    ensures { result ≡ Spec.states_fit (lent_tables t.now) fw.now count }
 {
-    if current_state == STATE_END {
-        return true;
+    for m in 0..count {
+        let state = fw.runtime[m].current_state;
+        if state != STATE_END && state >= word(t.machines, m * MACHINE_WORDS + NUM_STATES) {
+            return false;
+        }
     }
-    current_state < num_states
+    true
 }
 
 // 1 for a machine that has ended.
-pub fn one_if_ended(current_state: u64) -> u64
-    ensures { result ≡ cond (eqb current_state state_end) 1 0 }
+fn one_if_ended(r: &MachineRuntime) -> u64
+    ensures { result ≡ cond (Spec.has_ended r.now) 1 0 }
 {
-    if current_state == STATE_END {
-        return 1;
-    }
-    0
+    if r.current_state == STATE_END { 1 } else { 0 }
 }
 
-// 18, given whether the current states fit and how many machines are in STATE_END: the machine
-// count, the states, a pending signal that leaves out an unknown machine, and the ended number.
-pub fn fits_tables(
-    count: u64,
-    fit: bool,
-    signal_pending: u64,
-    ended: u64,
-    in_state_end: u64,
-    machines: &[u64],
-) -> bool
-    ensures { let rows = rows_in machines.now in
-        result ≡ (eqb count rows && fit && ltb signal_pending (2 + rows) && eqb ended in_state_end) }
+// How many of the first `count` machines have ended.
+pub fn ended_in(fw: &Framework, count: usize) -> u64
+    requires { count ≤ machine_max }
+    ensures { result ≡ Spec.ended_in fw.now.runtime count }
 {
-    let rows = (machines.len() / MACHINE_WORDS) as u64;
-    (count == rows) & fit & (signal_pending < 2 + rows) & (ended == in_state_end)
+    let mut ended = 0;
+    for m in 0..count {
+        ended += one_if_ended(&fw.runtime[m]);
+    }
+    ended
+}
+
+// 18: the machine count, the states, a pending signal that leaves out an unknown machine, and the ended number.
+#[tactic(auto, unfolding(steps::specs::Framework::fits_tables))]
+pub fn fits_tables(fw: &Framework, t: &Tables) -> bool
+    requires { Spec.rows_in t.now.machines.now ≤ machine_max }
+    ensures { result ≡ Spec.fits_tables (lent_tables t.now) fw.now }
+{
+    let count = t.machines.len() / MACHINE_WORDS;
+    fw.machines == count as u64
+        && states_fit(fw, t, count)
+        && fw.signal_pending < 2 + count as u64
+        && fw.ended == ended_in(fw, count)
 }
 
 // 19: whole events, each of a known kind.
 pub fn events_fit(events: &[u64]) -> bool
-    ensures { result ≡ events_fit events.now }
+    ensures { result ≡ Spec.events_fit events.now }
 {
     if events.len() % 2 != 0 {
         return false;
     }
-    let n = events.len() / 2;
-    let mut i = 0;
-    while i < n {
+    for i in 0..events.len() / 2 {
         if events[i * 2] > TIMER_END_KIND {
             return false;
         }
-        i = i + 1;
     }
     true
 }

@@ -2,41 +2,79 @@
 // raw words, and all_machines_ended.
 #![tactic(auto)]
 
-ghost use Rattle.std.specs.Prelude.{◌≡◌, true, cond, ◌&&◌, List, [], ℕ, ◌*◌, ◌/◌, ◌≤◌, length};
+ghost use Rattle.std.specs.Prelude.{◌≡◌, true, cond, [], ◌*◌, ◌/◌, ◌≤◌, length, ltb, IfOk};
+ghost use Rattle.refusal.specs.Refusal.{refusal_of};
 ghost use Rattle.machine.specs.Constants.{row_words};
+ghost use Rattle.machine.specs.Source.{tapes};
+ghost use Rattle.machine.specs.Tables.{lent_tables};
 ghost use Rattle.tables.specs.Machine.{tables_refusal};
-ghost use Rattle.outside.specs.Outside.{draws_outside};
 ghost use Rattle.steps.specs.Events.{num_machines};
 ghost use Rattle.steps.specs.Framework as Spec;
-ghost use Rattle.machine.specs.Source.{tapes};
-ghost use Rattle.machine.specs.Words.{lent};
-ghost use Rattle.steps.specs.Words.{outside_refused, opened_in_words, opening_words, batch_words};
-ghost use Rattle.events.specs.Run.{tables, run_of, entered, ran_from};
+ghost use Rattle.steps.specs.Words.{opened_in_words, opening_words, on_words, batch_on, batch_words};
+ghost use Rattle.events.specs.Run.{outcome_of};
+ghost use Rattle.framework.specs.Answers as Answers;
 
-use machine::constants::{DRAWN_OUTSIDE, MACHINE_WORDS, NUM_STATES, ROW_WORDS};
-use machine::state::word;
-use steps::{Answer, AnswerWords, Framework, Opened, OpenedWords, Ran, Verdict};
+use events::run_events;
+use machine::constants::{MACHINE_MAX, MACHINE_WORDS, ROW_WORDS};
+use machine::source::{Draw, Draws, Tapes, Words};
+use machine::tables::Tables;
+use refusal::Refusal;
+use signals::run_signals;
+use steps::{Answer, AnswerWords, Framework, Opened, OpenedWords, Run};
 
 mod checks; // refusals 18 and 19
 mod output; // the output rows
 mod start; // the machines of an opening
 
+// ---- the opening
+
 // What an opening refuses before it draws: the fractions, then the tables.
-fn open_refusal(
+fn check_opening(
     max_padding_frac: f64,
     max_blocking_frac: f64,
-    machines: &[u64],
-    states: &[u64],
-    transitions: &[u64],
-) -> u64
-    ensures { let T = tables machines.now states.now transitions.now in
-        result ≡ Spec.open_refusal T max_padding_frac max_blocking_frac }
+    t: &Tables,
+) -> Result<(), Refusal>
+    ensures { refusal_of result ≡ Spec.open_refusal (lent_tables t.now) max_padding_frac max_blocking_frac }
 {
-    let fractions = tables::check_fractions(max_padding_frac, max_blocking_frac);
-    if fractions != 0 {
-        return fractions;
+    tables::check_fractions(max_padding_frac, max_blocking_frac)?;
+    tables::check_tables(t)
+}
+
+// An opening that draws from two tapes.
+fn open(
+    max_padding_frac: f64,
+    max_blocking_frac: f64,
+    time: u64,
+    t: &Tables,
+    values: &[f64],
+) -> Result<Draw<Framework>, Refusal>
+    ensures { Answers.opened result ≡ Spec.opening (lent_tables t.now) max_padding_frac max_blocking_frac time (tapes [] values.now) }
+{
+    check_opening(max_padding_frac, max_blocking_frac, t)?;
+    let chances: [f32; 0] = [];
+    let draws = Tapes {
+        chances: &chances,
+        values,
+    };
+    start::open_machines(max_padding_frac, max_blocking_frac, time, t, &draws)
+}
+
+// The same from raw words: 24 after the table checks.
+fn open_words(
+    max_padding_frac: f64,
+    max_blocking_frac: f64,
+    time: u64,
+    t: &Tables,
+    words: &[u64],
+) -> Result<Draw<Framework>, Refusal>
+    ensures { opened_in_words (Answers.opened result) ≡ opening_words (lent_tables t.now) max_padding_frac max_blocking_frac time words.now }
+{
+    check_opening(max_padding_frac, max_blocking_frac, t)?;
+    if outside::draws_outside(t) {
+        return Err(Refusal::DrawnOutside);
     }
-    tables::check_tables(machines, states, transitions)
+    let draws = Words { words };
+    start::open_machines(max_padding_frac, max_blocking_frac, time, t, &draws)
 }
 
 // Framework::new.
@@ -44,375 +82,222 @@ pub fn opening(
     max_padding_frac: f64,
     max_blocking_frac: f64,
     time: u64,
-    machines: &[u64],
-    states: &[u64],
-    transitions: &[u64],
+    t: &Tables,
     values: &[f64],
 ) -> Opened
-    ensures { let T = tables machines.now states.now transitions.now in
-        result ≡ Spec.opening T max_padding_frac max_blocking_frac time (tapes [] values.now) }
+    ensures { result ≡ Spec.opening (lent_tables t.now) max_padding_frac max_blocking_frac time (tapes [] values.now) }
 {
-    let refusal = open_refusal(
-        max_padding_frac,
-        max_blocking_frac,
-        machines,
-        states,
-        transitions,
-    );
-    if refusal != 0 {
-        return start::unopened(refusal);
-    }
-    let words: [u64; 0] = [];
-    start::open_machines(
-        max_padding_frac,
-        max_blocking_frac,
-        time,
-        machines,
-        states,
-        values,
-        &words,
-    )
+    start::opened(open(max_padding_frac, max_blocking_frac, time, t, values))
 }
 
-// An opening's answer, where its draws came from words.
-fn opened_in_words(o: Opened) -> OpenedWords
-    ensures { result ≡ opened_in_words o }
-{
-    let f = o.framework;
-    OpenedWords {
-        refusal: o.refusal,
-        words_used: o.value_used,
-        framework: f,
-    }
-}
-
-// The same from raw words: 24 after the table checks.
+// The same from raw words.
 pub fn opening_words(
     max_padding_frac: f64,
     max_blocking_frac: f64,
     time: u64,
-    machines: &[u64],
-    states: &[u64],
-    transitions: &[u64],
+    t: &Tables,
     words: &[u64],
 ) -> OpenedWords
-    ensures { let T = tables machines.now states.now transitions.now in
-        result ≡ opening_words T max_padding_frac max_blocking_frac time words.now }
+    ensures { result ≡ opening_words (lent_tables t.now) max_padding_frac max_blocking_frac time words.now }
 {
-    let refusal = open_refusal(
-        max_padding_frac,
-        max_blocking_frac,
-        machines,
-        states,
-        transitions,
-    );
-    if refusal != 0 {
-        return opened_in_words(start::unopened(refusal));
-    }
-    if outside::draws_outside(machines, states) {
-        return opened_in_words(start::unopened(DRAWN_OUTSIDE));
-    }
-    let values: [f64; 0] = [];
-    opened_in_words(start::open_machines(
+    let o = start::opened(open_words(
         max_padding_frac,
         max_blocking_frac,
         time,
-        machines,
-        states,
-        &values,
+        t,
         words,
-    ))
+    ));
+    OpenedWords {
+        refusal: o.refusal,
+        words_used: o.value_used,
+        framework: o.framework,
+    }
 }
 
-// 24, of tables that pass: only a call that draws from words asks it.
-fn outside(raw: bool, machines: &[u64], states: &[u64]) -> bool
-    ensures { result ≡ (raw && draws_outside machines.now states.now) }
-{
-    if raw {
-        return outside::draws_outside(machines, states);
-    }
-    false
-}
+// ---- a batch
 
-// What a batch refuses before it runs, where `fits` says whether its framework fits tables that
-// pass, and `raw` that it draws from words; `room` is the output's length.
-fn batch_refusal(
-    fits: bool,
-    raw: bool,
-    machines: &[u64],
-    states: &[u64],
-    transitions: &[u64],
-    events: &[u64],
-    room: usize,
-) -> u64
-    ensures { let T = tables machines.now states.now transitions.now in
-        ((fw : Framework) (out : List ℕ) → (tables_refusal T.machines T.states T.transitions ≡ 0 → fits ≡ Spec.fits_tables T fw)
-        → length out ≡ room → result ≡ cond (raw && outside_refused (tables_refusal T.machines T.states T.transitions) T) 24 (Spec.batch_refusal fw T events.now out)) }
+// What a batch refuses beside its tables, where these pass: 18, 19 and 20; `room` is the output's length.
+fn check_batch(fw: &Framework, t: &Tables, events: &[u64], room: usize) -> Result<(), Refusal>
+    requires { Spec.rows_in t.now.machines.now ≤ 16 }
+    ensures { refusal_of result ≡ cond (Spec.fits_tables (lent_tables t.now) fw.now)
+        (cond (Spec.events_fit events.now) (cond (ltb room (row_words * Spec.rows_in t.now.machines.now)) 20 0) 19) 18 }
 {
-    let refusal = tables::check_tables(machines, states, transitions);
-    if refusal != 0 {
-        return refusal;
+    if !checks::fits_tables(fw, t) {
+        return Err(Refusal::ForeignFramework);
     }
-    if outside(raw, machines, states) {
-        return DRAWN_OUTSIDE;
+    if !checks::events_fit(events) {
+        return Err(Refusal::UnknownEvents);
     }
-    if fits {
-        if checks::events_fit(events) {
-            if room < ROW_WORDS * (machines.len() / MACHINE_WORDS) {
-                return 20;
-            }
-            return 0;
-        }
-        return 19;
+    if room < ROW_WORDS * (t.machines.len() / MACHINE_WORDS) {
+        return Err(Refusal::NoRoom);
     }
-    18
+    Ok(())
 }
 
 // The events in order, then the signals.
-fn trigger_events(
-    fw: Framework,
-    machines: &[u64],
-    states: &[u64],
-    transitions: &[u64],
+fn trigger_events<D: Draws>(
+    fw: &Framework,
+    t: &Tables,
     time: u64,
     events: &[u64],
-    chances: &[f32],
-    values: &[f64],
-    words: &[u64],
-) -> Ran
+    draws: &D,
+) -> Result<Run, Refusal>
     requires { Spec.kinds_fit events.now (length events.now / 2) ≡ true }
-    ensures is { let T = tables machines.now states.now transitions.now in
-        let D = lent chances.now values.now words.now in
-        result ≡ ran_from (entered fw) (Spec.trigger_events T D time events.now fw) }
-    ensures keeps { result.framework.machines ≡ fw.machines }
+    ensures is { outcome_of result ≡ Spec.trigger_events (lent_tables t.now) (D.source draws.now) time events.now fw.now }
+    ensures keeps { IfOk result (λ x. x.framework.machines ≡ fw.now.machines) }
 {
-    let ran = events::run_events(
-        fw,
-        machines,
-        states,
-        transitions,
-        time,
-        events,
-        chances,
-        values,
-        words,
-    );
-    let verdict = ran.verdict;
-    match verdict {
-        Verdict::Refused(_) => {
-            return ran;
-        }
-        Verdict::Complete => {}
+    let x = run_events(fw, t, time, events, draws)?;
+    if x.shared.signal_pending == 0 {
+        return Ok(x);
     }
-    let s = ran.shared;
-    if s.signal_pending == 0 {
-        return ran;
-    }
-    let f = ran.framework;
-    let actions = ran.actions;
-    let heard = signals::run_signals(
-        machines,
-        states,
-        transitions,
-        chances,
-        values,
-        words,
-        f,
-        actions,
-        s,
-    );
-    let last = heard.verdict;
-    match last {
-        Verdict::Refused(n) => events::stopped(fw, n),
-        Verdict::Complete => heard,
-    }
-}
-
-// A refused batch: the framework as it went in, no draws.
-fn refused(fw: Framework, refusal: u64) -> Answer
-    ensures { (out : List ℕ) → result ≡ (Spec.refused fw out refusal).answer }
-{
-    Answer {
-        refusal: refusal,
-        actions: 0,
-        chance_used: 0,
-        value_used: 0,
-        framework: fw,
-    }
+    run_signals(&x, t, draws)
 }
 
 // An accepted batch: the rows are written, the ended machines counted, and a signal that is still
 // pending waits for the next.
-fn accepted(ran: Ran, out: &mut [u64]) -> Answer
-    requires { row_words * num_machines ran.framework ≤ length out.old }
-    ensures { let B = Spec.accepted (run_of ran) out.old in
+fn accepted(x: &Run, out: &mut [u64]) -> Answer
+    requires { row_words * num_machines x.now.framework ≤ length out.old }
+    ensures { let B = Spec.accepted x.now out.old in
         (result ≡ B.answer) × (out.new ≡ B.out) }
 {
-    let mut f = ran.framework;
-    let actions = ran.actions;
-    let s = ran.shared;
-    let count = numbers::smaller(f.machines, 16) as usize;
-    let rows = output::put_rows(actions, count, out);
-    let mut ended = 0;
-    let mut m = 0;
-    while m < count {
-        let r = f.runtime[m];
-        ended = ended + checks::one_if_ended(r.current_state);
-        m = m + 1;
-    }
-    f.ended = ended;
-    f.signal_pending = s.signal_pending;
+    let mut framework = x.framework;
+    let count = numbers::smaller(framework.machines, MACHINE_MAX as u64) as usize;
+    let actions = output::put_rows(&x.actions, count, out);
+    framework.ended = checks::ended_in(&framework, count);
+    framework.signal_pending = x.shared.signal_pending;
     Answer {
         refusal: 0,
-        actions: rows,
-        chance_used: s.place.chance_at as u64,
-        value_used: s.place.value_at as u64,
-        framework: f,
+        actions,
+        chance_used: x.shared.place.chance_at as u64,
+        value_used: x.shared.place.value_at as u64,
+        framework,
+    }
+}
+
+// A batch whose tables pass.
+fn run_passed<D: Draws>(
+    fw: &Framework,
+    t: &Tables,
+    time: u64,
+    events: &[u64],
+    draws: &D,
+    out: &mut [u64],
+) -> Result<Answer, Refusal>
+    requires { tables_refusal t.now.machines.now t.now.states.now t.now.transitions.now ≡ 0 }
+    ensures { let B = Spec.batch fw.now (lent_tables t.now) time events.now (D.source draws.now) out.old in
+        (Answers.answered fw.now result ≡ B.answer) × (out.new ≡ B.out) }
+{
+    check_batch(fw, t, events, out.len())?;
+    let x = trigger_events(fw, t, time, events, draws)?;
+    Ok(accepted(&x, out))
+}
+
+fn run_batch<D: Draws>(
+    fw: &Framework,
+    t: &Tables,
+    time: u64,
+    events: &[u64],
+    draws: &D,
+    out: &mut [u64],
+) -> Result<Answer, Refusal>
+    ensures { let B = Spec.batch fw.now (lent_tables t.now) time events.now (D.source draws.now) out.old in
+        (Answers.answered fw.now result ≡ B.answer) × (out.new ≡ B.out) }
+{
+    tables::check_tables(t)?;
+    run_passed(fw, t, time, events, draws, out)
+}
+
+// The same from raw words: 24 after the table checks, and before 18.
+fn run_words(
+    fw: &Framework,
+    t: &Tables,
+    time: u64,
+    events: &[u64],
+    words: &[u64],
+    out: &mut [u64],
+) -> Result<Answer, Refusal>
+    ensures { let B = batch_on fw.now (lent_tables t.now) time events.now (on_words words.now) out.old in
+        (Answers.answered fw.now result ≡ B.answer) × (out.new ≡ B.out) }
+{
+    tables::check_tables(t)?;
+    if outside::draws_outside(t) {
+        return Err(Refusal::DrawnOutside);
+    }
+    run_passed(fw, t, time, events, &Words { words }, out)
+}
+
+// The answer of a batch: where it was refused, the framework as it went in and no draws.
+fn answered(fw: Framework, answer: Result<Answer, Refusal>) -> Answer
+    ensures { result ≡ Answers.answered fw answer }
+{
+    match answer {
+        Ok(a) => a,
+        Err(r) => Answer {
+            refusal: r.into(),
+            actions: 0,
+            chance_used: 0,
+            value_used: 0,
+            framework: fw,
+        },
     }
 }
 
 // trigger_events: a batch of events at one time, and the actions that it returns as rows of `out`.
-// It draws from the words where there are any, else from the two tapes; where `raw` is set it also
-// refuses what is drawn outside. The machines are looked at here, where the framework is at hand:
-// handed on, it would be copied.
-pub fn batch_on(
+pub fn batch_on<D: Draws>(
     fw: Framework,
-    machines: &[u64],
-    states: &[u64],
-    transitions: &[u64],
+    t: &Tables,
     time: u64,
     events: &[u64],
-    chances: &[f32],
-    values: &[f64],
-    words: &[u64],
-    raw: bool,
+    draws: &D,
     out: &mut [u64],
 ) -> Answer
-    ensures { let T = tables machines.now states.now transitions.now in
-        let D = lent chances.now values.now words.now in
-        let outside = outside_refused (tables_refusal T.machines T.states T.transitions) T in
-        let B = cond (raw && outside) (Spec.refused fw out.old 24) (Spec.batch fw T time events.now D out.old) in
+    ensures { let B = Spec.batch fw (lent_tables t.now) time events.now (D.source draws.now) out.old in
         (result ≡ B.answer) × (out.new ≡ B.out) }
 {
-    let count = numbers::smaller((machines.len() / MACHINE_WORDS) as u64, 16) as usize;
-    let mut fit = true;
-    let mut ended = 0;
-    let mut m = 0;
-    while m < count {
-        let r = fw.runtime[m];
-        fit = fit
-            & checks::state_fits(
-                r.current_state,
-                word(machines, m * MACHINE_WORDS + NUM_STATES),
-            );
-        ended = ended + checks::one_if_ended(r.current_state);
-        m = m + 1;
-    }
-    let fits = checks::fits_tables(
-        fw.machines,
-        fit,
-        fw.signal_pending,
-        fw.ended,
-        ended,
-        machines,
-    );
-    let refusal = batch_refusal(fits, raw, machines, states, transitions, events, out.len());
-    if refusal != 0 {
-        return refused(fw, refusal);
-    }
-    let ran = trigger_events(
-        fw,
-        machines,
-        states,
-        transitions,
-        time,
-        events,
-        chances,
-        values,
-        words,
-    );
-    let verdict = ran.verdict;
-    match verdict {
-        Verdict::Refused(n) => refused(fw, n),
-        Verdict::Complete => accepted(ran, out),
-    }
+    answered(fw, run_batch(&fw, t, time, events, draws, out))
 }
 
 // A batch on two tapes.
 pub fn batch(
     fw: Framework,
-    machines: &[u64],
-    states: &[u64],
-    transitions: &[u64],
+    t: &Tables,
     time: u64,
     events: &[u64],
     chances: &[f32],
     values: &[f64],
     out: &mut [u64],
 ) -> Answer
-    ensures { let T = tables machines.now states.now transitions.now in
-        let D = tapes chances.now values.now in
-        let B = Spec.batch fw T time events.now D out.old in
+    ensures { let B = Spec.batch fw (lent_tables t.now) time events.now (tapes chances.now values.now) out.old in
         (result ≡ B.answer) × (out.new ≡ B.out) }
 {
-    let words: [u64; 0] = [];
-    batch_on(
-        fw,
-        machines,
-        states,
-        transitions,
-        time,
-        events,
-        chances,
-        values,
-        &words,
-        false,
-        out,
-    )
+    batch_on(fw, t, time, events, &Tapes { chances, values }, out)
 }
 
 // A batch from raw words.
 pub fn batch_words(
     fw: Framework,
-    machines: &[u64],
-    states: &[u64],
-    transitions: &[u64],
+    t: &Tables,
     time: u64,
     events: &[u64],
     words: &[u64],
     out: &mut [u64],
 ) -> AnswerWords
-    ensures { let T = tables machines.now states.now transitions.now in
-        let B = batch_words fw T time events.now words.now out.old in
+    ensures { let B = batch_words fw (lent_tables t.now) time events.now words.now out.old in
         (result ≡ B.answer) × (out.new ≡ B.out) }
 {
-    let chances: [f32; 0] = [];
-    let values: [f64; 0] = [];
-    let a = batch_on(
-        fw,
-        machines,
-        states,
-        transitions,
-        time,
-        events,
-        &chances,
-        &values,
-        words,
-        true,
-        out,
-    );
-    let f = a.framework;
+    let a = answered(fw, run_words(&fw, t, time, events, words, out));
     AnswerWords {
         refusal: a.refusal,
         actions: a.actions,
         words_used: a.value_used,
-        framework: f,
+        framework: a.framework,
     }
 }
 
 // Whether all machines have ended: the ended number is the machine count, one above 16 read as 16.
-pub fn all_machines_ended(fw: Framework) -> bool
-    ensures { result ≡ Spec.all_machines_ended fw }
+#[tactic(auto, unfolding(steps::specs::Framework::all_machines_ended))]
+pub fn all_machines_ended(fw: &Framework) -> bool
+    ensures { result ≡ Spec.all_machines_ended fw.now }
 {
     fw.ended == numbers::smaller(fw.machines, 16)
 }
