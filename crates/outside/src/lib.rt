@@ -1,121 +1,85 @@
-// Refusal 24: a distribution of kind 2, drawn outside, in a field that is used. No row is trusted to
-// have its words.
+// Refusal 24: a distribution of kind 2, drawn outside, in a field that is used.
 #![tactic(auto)]
 
-ghost use Rattle.std.specs.Prelude.{◌≡◌, false, ◌+◌, ◌*◌, ◌/◌, ◌≤◌, length, get_or};
-ghost use Rattle.machine.specs.Constants.{machine_words, state_words};
+ghost use Rattle.std.specs.Prelude.{◌≡◌, false, ◌+◌, ◌/◌, ◌≤◌, length};
+ghost use Rattle.std.specs.List.{concat};
+ghost use Rattle.machine.specs.Constants.{state_words};
 ghost use Rattle.outside.specs.Outside as Spec;
 
 use machine::constants::{
     ACTION, BLOCK_OUTGOING, COUNTER_A, COUNTER_B, COUNTER_DIST, DURATION, FIRST_STATE, LIMIT,
     MACHINE_WORDS, NUM_STATES, OUTSIDE, SEND_PADDING, STATE_WORDS, TIMEOUT, UPDATE_TIMER,
 };
-use machine::state::{state_rows, word};
+use machine::state::state_rows;
+use machine::tables::Tables;
+
+// A state's words.
+type Row = [u64; STATE_WORDS];
 
 // ---- a state
 
-// The distribution that begins at word k.
-fn drawn_outside(row: &[u64], k: usize) -> bool
-    ensures { result ≡ Spec.drawn_outside row.now k }
-{
-    word(row, k) == OUTSIDE
-}
-
-// The kind of the distribution of the counter that begins at word k, even under copy.
-fn counter_kind(row: &[u64], k: usize) -> u64
-    requires { k + 7 ≤ state_words }
-    ensures { result ≡ get_or row.now (k + 2) 0 }
-{
-    word(row, k + COUNTER_DIST)
-}
-
-// That counter: its operation is 0 where there is none.
-fn counter_outside(row: &[u64], k: usize) -> bool
+// The counter that begins at word k: its operation is 0 where there is none. Its distribution's kind
+// counts even under copy.
+fn counter_outside(row: &Row, k: usize) -> bool
     requires { k + 7 ≤ state_words }
     ensures { result ≡ Spec.counter_outside row.now k }
 {
-    (word(row, k) != 0) & (counter_kind(row, k) == OUTSIDE)
+    (row[k] != 0) & (row[k + COUNTER_DIST] == OUTSIDE)
 }
 
 // Any of the five distributions, used or not: where none is, no used one is.
-fn any_outside(row: &[u64]) -> bool
+#[tactic(auto, using(crate::specs::Outside::Laws::none_outside))]
+fn any_outside(row: &Row) -> bool
     ensures { result ≡ false → Spec.state_outside row.now ≡ false }
 {
-    drawn_outside(row, TIMEOUT)
-        | drawn_outside(row, DURATION)
-        | drawn_outside(row, LIMIT)
-        | drawn_outside(row, COUNTER_A + COUNTER_DIST)
-        | drawn_outside(row, COUNTER_B + COUNTER_DIST)
+    (row[TIMEOUT] == OUTSIDE)
+        | (row[DURATION] == OUTSIDE)
+        | (row[LIMIT] == OUTSIDE)
+        | (row[COUNTER_A + COUNTER_DIST] == OUTSIDE)
+        | (row[COUNTER_B + COUNTER_DIST] == OUTSIDE)
 }
 
 // What the action uses, and both counters. Every field is read, and a use is joined with its kind
 // without a branch: nothing is guessed of words that change from state to state.
-fn used_outside(row: &[u64]) -> bool
+#[tactic(auto, unfolding(crate::specs::Outside::state_outside))]
+fn used_outside(row: &Row) -> bool
     ensures { result ≡ Spec.state_outside row.now }
 {
-    let action = word(row, ACTION);
+    let action = row[ACTION];
     let pads = action == SEND_PADDING;
     let blocks = action == BLOCK_OUTGOING;
     let times = action == UPDATE_TIMER;
-    let timeout = (pads | blocks) & drawn_outside(row, TIMEOUT);
-    let duration = (blocks | times) & drawn_outside(row, DURATION);
-    let limit = (pads | blocks | times) & drawn_outside(row, LIMIT);
+    let timeout = (pads | blocks) & (row[TIMEOUT] == OUTSIDE);
+    let duration = (blocks | times) & (row[DURATION] == OUTSIDE);
+    let limit = (pads | blocks | times) & (row[LIMIT] == OUTSIDE);
     timeout | duration | limit | counter_outside(row, COUNTER_A) | counter_outside(row, COUNTER_B)
 }
 
 // Tables that draw from words seldom have one, used or not.
-fn state_outside(row: &[u64]) -> bool
+fn state_outside(row: &Row) -> bool
     ensures { result ≡ Spec.state_outside row.now }
 {
-    if any_outside(row) {
-        return used_outside(row);
-    }
-    false
+    any_outside(row) && used_outside(row)
 }
 
-// ---- a machine
+// ---- machines
 
-// Each state of these rows; words after the last whole row are none.
-fn states_outside(rows: &[u64]) -> bool
-    ensures { result ≡ Spec.states_outside rows.now (length rows.now / state_words) }
+// The states of a machine, whose words are given.
+fn machine_outside(machine: &[u64; MACHINE_WORDS], states: &[u64]) -> bool
+    ensures { result ≡ Spec.machines_outside machine.now states.now 1 }
 {
-    let n = rows.len() / STATE_WORDS;
-    let mut i = 0;
-    while i < n {
-        let at = i * STATE_WORDS;
-        let end = at + STATE_WORDS;
-        if state_outside(&rows[at..end]) {
-            return true;
-        }
-        i = i + 1;
-    }
-    false
+    let own = state_rows(states, machine[FIRST_STATE], machine[NUM_STATES]);
+    let (rows, _) = own.as_chunks::<STATE_WORDS>();
+    rows.iter().any(|row| state_outside(row))
 }
-
-// The states of machine i.
-fn machine_outside(machines: &[u64], states: &[u64], i: usize) -> bool
-    requires { (i + 1) * machine_words ≤ length machines.now }
-    ensures { result ≡ Spec.states_outside (Spec.own_rows machines.now states.now i) (length (Spec.own_rows machines.now states.now i) / state_words) }
-{
-    let at = i * MACHINE_WORDS;
-    let first = machines[at + FIRST_STATE];
-    let count = machines[at + NUM_STATES];
-    states_outside(state_rows(states, first, count))
-}
-
-// ---- all machines
 
 // Refusal 24: whether a state of the machines uses a distribution that is drawn outside. Each machine
 // has its own part of the state table, no further than the table goes.
-pub fn draws_outside(machines: &[u64], states: &[u64]) -> bool
-    ensures { result ≡ Spec.draws_outside machines.now states.now }
+pub fn draws_outside(t: &Tables) -> bool
+    ensures { result ≡ Spec.draws_outside t.now.machines.now t.now.states.now }
 {
-    let mut i = 0;
-    while (i + 1) * MACHINE_WORDS <= machines.len() {
-        if machine_outside(machines, states, i) {
-            return true;
-        }
-        i = i + 1;
-    }
-    false
+    let (machines, _) = t.machines.as_chunks::<MACHINE_WORDS>();
+    machines
+        .iter()
+        .any(|machine| machine_outside(machine, t.states))
 }
