@@ -2,17 +2,14 @@
 use Prim.Native.Nat.{ℕ, ◌+◌, ◌≤◌}
 use mathlib.Core.Path.{◌≡◌}
 use mathlib.Core.List.{List}
-use mathlib.Core.Bool.{Bool, cond, ◌&&◌, ◌||◌}
+use mathlib.Core.Bool.{cond}
 use native.Mathlib.Numerals.{add-one}
 use native.Mathlib.Nat.{le_trans, le_of_eq}
-use lib.Dec.{eqb, ltb}
 use lib.ListN.{get_or}
-use Rattle.machine.specs.Constants.{state_end, num_states}
-use Rattle.steps.specs.Events.{Tables, no_runtime, runtime_at, machine_word}
-use Rattle.steps.specs.Framework.{states_fit, has_ended, ended_in}
+use Rattle.steps.specs.Events.{no_runtime}
+use Rattle.steps.specs.Framework.{has_ended, ended_in}
 use Rattle.steps.proofs.Ended.{ended_most}
 use Rattle.steps.specs.declared.MachineRuntime.{MachineRuntime}
-use Rattle.steps.specs.declared.Framework.{Framework}
 
 module _ (rs : List MachineRuntime) (m ended one : ℕ) (e : ended ≡ ended_in rs m) (f : one ≡ cond (has_ended (get_or rs m no_runtime)) 1 0) where
   pub one_more : ended + one ≡ ended_in rs (m + 1)
@@ -21,9 +18,3 @@ module _ (rs : List MachineRuntime) (m ended one : ℕ) (e : ended ≡ ended_in 
 
   pub at_most : ended + one ≤ m + 1
   at_most = le_trans (le_of_eq one_more) (ended_most rs (m + 1))
-
-pub one_more_fits : (T : Tables) (fw : Framework) (m : ℕ) (fit one : Bool) → fit ≡ states_fit T fw m
-    → one ≡ (eqb (runtime_at fw m).current_state state_end || ltb (runtime_at fw m).current_state (machine_word T.machines m num_states))
-    → (fit && one) ≡ states_fit T fw (m + 1)
-unfolding states_fit
-one_more_fits T fw m fit one e f = rw add-one (λ z. e z && f z)

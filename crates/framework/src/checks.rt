@@ -1,6 +1,6 @@
 // What a batch refuses beside its tables: a framework that does not fit them (18), and events that
 // are not whole or of an unknown kind (19).
-ghost use Rattle.std.specs.Prelude.{◌≡◌, ◌≤◌};
+ghost use Rattle.std.specs.Prelude.{◌≡◌, cond, ◌≤◌};
 ghost use Rattle.machine.specs.Constants.{machine_max};
 ghost use Rattle.machine.specs.Tables.{lent_tables};
 ghost use Rattle.steps.specs.Framework as Spec;

@@ -29,6 +29,7 @@ mod start; // the machines of an opening
 // ---- the opening
 
 // What an opening refuses before it draws: the fractions, then the tables.
+#[tactic(auto, unfolding(steps::specs::Framework::or_else))]
 fn check_opening(
     max_padding_frac: f64,
     max_blocking_frac: f64,
@@ -135,6 +136,7 @@ fn check_batch(fw: &Framework, t: &Tables, events: &[u64], room: usize) -> Resul
 }
 
 // The events in order, then the signals.
+#[tactic(auto, unfolding(steps::specs::Framework::trigger_events, steps::specs::Events::signals))]
 fn trigger_events<D: Draws>(
     fw: &Framework,
     t: &Tables,

@@ -1,5 +1,6 @@
 -- The number of each refusal, and of an answer: 0 where the call was accepted.
-use Rattle.std.specs.Prelude.{ℕ, Result, Ok, Err}
+use Rattle.std.specs.Prelude.{ℕ, ◌<◌, Result, Ok, Err}
+use Rattle.std.proofs.Common.{lit<}
 use Rattle.refusal.specs.declared.Refusal.{Refusal}
 use Rattle.refusal.specs.declared.Refusal.TheVariants as R
 
@@ -32,3 +33,30 @@ number R.DrawnOutside = 24
 abbrev pub refusal_of : {A : Type 0} → Result A Refusal → ℕ
 refusal_of (Ok a) = 0
 refusal_of (Err r) = number r
+
+-- no refusal has the number of an accepted call
+pub number_positive : (r : Refusal) → 0 < number r
+number_positive R.PaddingFraction = lit< tt
+number_positive R.BlockingFraction = lit< tt
+number_positive R.NotWholeRows = lit< tt
+number_positive R.MachinePadding = lit< tt
+number_positive R.MachineBlocking = lit< tt
+number_positive R.StateCount = lit< tt
+number_positive R.StatesBeyondTable = lit< tt
+number_positive R.RowBeyondTable = lit< tt
+number_positive R.ProbabilityWord = lit< tt
+number_positive R.UnknownTarget = lit< tt
+number_positive R.RepeatedTarget = lit< tt
+number_positive R.Probability = lit< tt
+number_positive R.ProbabilitySum = lit< tt
+number_positive R.UnknownCode = lit< tt
+number_positive R.InvalidDistribution = lit< tt
+number_positive R.NoDraw = lit< tt
+number_positive R.UnfitDraw = lit< tt
+number_positive R.ForeignFramework = lit< tt
+number_positive R.UnknownEvents = lit< tt
+number_positive R.NoRoom = lit< tt
+number_positive R.BadInput = lit< tt
+number_positive R.BadLine = lit< tt
+number_positive R.NoSheetRoom = lit< tt
+number_positive R.DrawnOutside = lit< tt

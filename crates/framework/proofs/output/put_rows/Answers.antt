@@ -28,7 +28,7 @@ overflow_add-at c =
     let c₁ = c in
     let args = c₁.args in
     let pre = c₁.requires in
-    let short = row_short loop.m (get_or args.actions loop.m no_action) in
+    let short = row_short loop.m (get_or args.actions.now loop.m no_action) in
     omega (arith, put-row.ensures.0, short, loop-test.true, loop.invariant.2, pre.0)
 
 pub loop-m-preserved : goal.loop-m-preserved
@@ -39,7 +39,7 @@ loop-m-preserved c =
     let c₁ = c in
     let args = c₁.args in
     let pre = c₁.requires in
-    let a = args.actions in
+    let a = args.actions.now in
     let m = loop.m in
     let fits : loop.at ≤ length loop.out = omega (arith, loop-test.true, loop.invariant.2, loop.invariant.3, pre.1) in (
       omega (arith, loop-test.true),
@@ -58,6 +58,6 @@ returns c =
     let loop = c.loop-m in
     let args = c.args in
     let e : loop.m ≡ args.count = omega arith in (
-      ap (λ (n : ℕ). n / 6) (loop.invariant.1 ∙ ap (λ (n : ℕ). length (action_rows args.actions n)) e),
-      loop.invariant.4 ∙ ap (λ (n : ℕ). written (action_rows args.actions n) args.out.now) e,
+      ap (λ (n : ℕ). n / 6) (loop.invariant.1 ∙ ap (λ (n : ℕ). length (action_rows args.actions.now n)) e),
+      loop.invariant.4 ∙ ap (λ (n : ℕ). written (action_rows args.actions.now n) args.out.now) e,
     )

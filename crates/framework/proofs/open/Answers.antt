@@ -1,0 +1,32 @@
+-- `open` meets its contract: the fractions and the tables first.
+use Rattle.std.specs.Prelude.{◌≡◌, []}
+use Rattle.std.proofs.Common.{rules}
+use Rattle.refusal.specs.Refusal.{number, number_positive}
+use Rattle.machine.specs.Source.{tapes}
+use Rattle.machine.specs.Tables.{lent_tables}
+use Rattle.steps.specs.Framework.{open_refusal}
+use Rattle.framework.proofs.Checked.{opens_few, opening_stops, opening_runs}
+use Rattle.framework.proofs.open.Goals as goal
+
+pub returns-in_err-check_opening : goal.returns-in_err-check_opening
+returns-in_err-check_opening c =
+    let a = c.args in
+    let T = lent_tables a.t.now in
+    let why = c.in_err-check_opening.field-0.0 in
+    let refusal : open_refusal T a.max_padding_frac a.max_blocking_frac ≡ number why = search rules in
+    let l = opening_stops T a.max_padding_frac a.max_blocking_frac a.time (tapes [] a.values.now) refusal (number_positive why) in
+    search rules
+
+pub open_machines-requires : goal.open_machines-requires
+open_machines-requires c =
+    let a = c.args in
+    let passed : open_refusal (lent_tables a.t.now) a.max_padding_frac a.max_blocking_frac ≡ 0 = search rules in
+    opens_few (lent_tables a.t.now) a.max_padding_frac a.max_blocking_frac passed
+
+pub returns : goal.returns
+returns c =
+    let a = c.args in
+    let T = lent_tables a.t.now in
+    let passed : open_refusal T a.max_padding_frac a.max_blocking_frac ≡ 0 = search rules in
+    let l = opening_runs T a.max_padding_frac a.max_blocking_frac a.time (tapes [] a.values.now) passed in
+    search rules
