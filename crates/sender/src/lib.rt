@@ -4,15 +4,15 @@
 ghost use Rattle.std.specs.Prelude.{◌≡◌, []};
 ghost use Rattle.steps.specs.Framework as Spec;
 ghost use Rattle.machine.specs.Source.{tapes};
-ghost use Rattle.machine.specs.Words.{lent};
-ghost use Rattle.events.specs.Run.{tables};
+ghost use Rattle.machine.specs.Tables.{tables};
 ghost use Rattle.due.specs.Due.{Lists};
 ghost use Rattle.sheet.specs.Reader.{Reads};
 ghost use Rattle.sheet.specs.Writer.{Writes};
 ghost use Rattle.steps.specs.Words.{opening_words};
-ghost use Rattle.sender.specs.Reply.{batch_by, Left, Promised, PromisedWords};
+ghost use Rattle.sender.specs.Reply.{Promised, PromisedWords};
 
 use due::Due;
+use machine::tables::Tables;
 use sheet::{SheetBytes, SheetRows};
 use steps::{Framework, Opened, OpenedWords};
 
@@ -58,15 +58,12 @@ pub extern "C" fn maybenot_opening(
 ) -> Opened
     ensures { result ≡ Spec.opening (tables machines.now states.now transitions.now) max_padding_frac max_blocking_frac time (tapes [] values.now) }
 {
-    framework::opening(
-        max_padding_frac,
-        max_blocking_frac,
-        time,
+    let t = Tables {
         machines,
         states,
         transitions,
-        values,
-    )
+    };
+    framework::opening(max_padding_frac, max_blocking_frac, time, &t, values)
 }
 
 // Opens a framework with the machines of the lent tables, drawing from raw words.
@@ -82,57 +79,12 @@ pub extern "C" fn maybenot_opening_words(
 ) -> OpenedWords
     ensures { result ≡ opening_words (tables machines.now states.now transitions.now) max_padding_frac max_blocking_frac time words.now }
 {
-    framework::opening_words(
-        max_padding_frac,
-        max_blocking_frac,
-        time,
+    let t = Tables {
         machines,
         states,
         transitions,
-        words,
-    )
-}
-
-// What both batches share: the lent framework becomes the one that `framework::batch_on` returns, with that batch's answer and
-// output. One function calls it, so that the framework is copied no more often than it has to be.
-fn on_lent(
-    fw: &mut Framework,
-    machines: &[u64],
-    states: &[u64],
-    transitions: &[u64],
-    time: u64,
-    events: &[u64],
-    chances: &[f32],
-    values: &[f64],
-    words: &[u64],
-    raw: bool,
-    out: &mut [u64],
-) -> Reply
-    ensures { let T = tables machines.now states.now transitions.now in
-        let D = lent chances.now values.now words.now in
-        let B = batch_by raw fw.old T time events.now D out.old in
-        Left B fw.new result out.new }
-{
-    let a = framework::batch_on(
-        *fw,
-        machines,
-        states,
-        transitions,
-        time,
-        events,
-        chances,
-        values,
-        words,
-        raw,
-        out,
-    );
-    *fw = a.framework;
-    Reply {
-        refusal: a.refusal,
-        actions: a.actions,
-        chance_used: a.chance_used,
-        value_used: a.value_used,
-    }
+    };
+    framework::opening_words(max_padding_frac, max_blocking_frac, time, &t, words)
 }
 
 // A batch of events on the framework that is lent: it becomes the one that `framework::batch`
@@ -153,20 +105,19 @@ pub extern "C" fn maybenot_batch(
         let D = tapes chances.now values.now in
         Promised fw.old T time events.now D out.old fw.new result out.new }
 {
-    let words: [u64; 0] = [];
-    on_lent(
-        fw,
+    let t = Tables {
         machines,
         states,
         transitions,
-        time,
-        events,
-        chances,
-        values,
-        &words,
-        false,
-        out,
-    )
+    };
+    let a = framework::batch(*fw, &t, time, events, chances, values, out);
+    *fw = a.framework;
+    Reply {
+        refusal: a.refusal,
+        actions: a.actions,
+        chance_used: a.chance_used,
+        value_used: a.value_used,
+    }
 }
 
 // The same from raw words: the lent framework becomes the one that `framework::batch_words` returns.
@@ -184,25 +135,17 @@ pub extern "C" fn maybenot_batch_words(
     ensures { let T = tables machines.now states.now transitions.now in
         PromisedWords fw.old T time events.now words.now out.old fw.new result out.new }
 {
-    let chances: [f32; 0] = [];
-    let values: [f64; 0] = [];
-    let r = on_lent(
-        fw,
+    let t = Tables {
         machines,
         states,
         transitions,
-        time,
-        events,
-        &chances,
-        &values,
-        words,
-        true,
-        out,
-    );
+    };
+    let a = framework::batch_words(*fw, &t, time, events, words, out);
+    *fw = a.framework;
     ReplyWords {
-        refusal: r.refusal,
-        actions: r.actions,
-        words_used: r.value_used,
+        refusal: a.refusal,
+        actions: a.actions,
+        words_used: a.words_used,
     }
 }
 
@@ -211,7 +154,7 @@ pub extern "C" fn maybenot_batch_words(
 pub extern "C" fn maybenot_all_machines_ended(fw: &Framework) -> bool
     ensures { result ≡ Spec.all_machines_ended fw.now }
 {
-    framework::all_machines_ended(*fw)
+    framework::all_machines_ended(fw)
 }
 
 // Reads a sheet into the lent tables.
