@@ -1,6 +1,5 @@
 -- What the proofs of this crate cite of plain numbers and floats.
-mod Doubled
-mod Tests
+mod Rounded
 mod Words
 pub mod Fraction
 pub mod Round
