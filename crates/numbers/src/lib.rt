@@ -15,30 +15,18 @@ pub mod time;
 
 // ---- floats of words
 
-// The f64 of a bit pattern. Every NaN pattern gives the NaN: without the sign's bit it is a number
-// above the infinity's.
-// Twins: the next function has another type, width and both patterns; a trait or a macro over these
-// would be longer than the two.
+// The f64 of a bit pattern. Every NaN pattern gives the NaN.
 pub fn f64_of_word(w: u64) -> f64
     ensures { result ≡ Ieee.of_bits binary64 w }
 {
-    if w % 0x8000_0000_0000_0000 > 0x7ff0_0000_0000_0000 {
-        f64::NAN
-    } else {
-        f64::from_bits(w)
-    }
+    std::num::f64_from_bits_with_nan(w)
 }
 
 // The f32 of the bit pattern in a word's low 32 bits, NaN patterns as above.
 pub fn f32_of_word(w: u64) -> f32
     ensures { result ≡ Ieee.of_bits binary32 (w % 4294967296) }
 {
-    let bits = w % 4294967296;
-    if bits % 0x8000_0000 > 0x7f80_0000 {
-        f32::NAN
-    } else {
-        f32::from_bits(bits as u32)
-    }
+    std::num::f32_from_bits_with_nan((w % 4294967296) as u32)
 }
 
 // ---- floats and whole numbers
