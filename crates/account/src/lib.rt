@@ -22,71 +22,60 @@ use steps::{Context, Framework, MachineRuntime, Totals};
 // ---- the counts
 
 // How long the ongoing blocking has been on.
+#[tactic(auto, unfolding(steps::specs::Events::blocked_for))]
 pub fn blocked_for(current_time: u64, t: Totals) -> u64
     ensures { result ≡ blocked_for current_time t }
 {
     if t.blocking_active == 0 {
-        return 0;
+        0
+    } else {
+        numbers::time::saturating_duration_since(current_time, t.blocking_started)
     }
-    numbers::time::saturating_duration_since(current_time, t.blocking_started)
 }
 
 // What an event makes of the framework's own counts. A begin while blocking is on does not move the
 // start, and an end while it is off adds nothing.
+#[tactic(auto, unfolding(steps::specs::Events::totals_after))]
 pub fn totals_after(kind: u64, current_time: u64, t: Totals) -> Totals
     ensures { result ≡ totals_after kind current_time t }
 {
     let mut u = t;
-    if kind == NORMAL_SENT {
-        u.normal_sent_packets = numbers::saturating_add(t.normal_sent_packets, 1);
-        return u;
-    }
-    if kind == PADDING_SENT {
-        u.padding_sent_packets = numbers::saturating_add(t.padding_sent_packets, 1);
-        return u;
-    }
-    if kind == BLOCKING_BEGIN {
-        if t.blocking_active == 0 {
+    match kind {
+        NORMAL_SENT => u.normal_sent_packets = numbers::saturating_add(t.normal_sent_packets, 1),
+        PADDING_SENT => u.padding_sent_packets = numbers::saturating_add(t.padding_sent_packets, 1),
+        BLOCKING_BEGIN if t.blocking_active == 0 => {
             u.blocking_started = current_time;
             u.blocking_active = 1;
-            return u;
         }
-        return t;
-    }
-    if kind == BLOCKING_END {
-        if t.blocking_active == 0 {
-            return t;
+        BLOCKING_END if t.blocking_active != 0 => {
+            let blocked = blocked_for(current_time, t);
+            u.blocking_duration = numbers::saturating_add(t.blocking_duration, blocked);
+            u.blocking_active = 0;
         }
-        let blocked = blocked_for(current_time, t);
-        u.blocking_duration = numbers::saturating_add(t.blocking_duration, blocked);
-        u.blocking_active = 0;
-        return u;
+        _ => {}
     }
-    t
+    u
 }
 
 // A machine's own counts, just before its transition; `blocked` is how long the blocking that ends
 // was on.
+#[tactic(auto, unfolding(steps::specs::Events::counts_after))]
 pub fn counted_by(kind: u64, blocked: u64, r: MachineRuntime) -> MachineRuntime
     ensures { result ≡ counted_by kind blocked r }
 {
     let mut q = r;
-    if kind == NORMAL_SENT {
-        let more = numbers::saturating_add(r.counts.normal_sent, 1);
-        q.counts.normal_sent = more;
-        return q;
+    match kind {
+        NORMAL_SENT => q.counts.normal_sent = numbers::saturating_add(r.counts.normal_sent, 1),
+        PADDING_SENT => q.counts.padding_sent = numbers::saturating_add(r.counts.padding_sent, 1),
+        BLOCKING_END => {
+            q.counts.blocking_duration = numbers::saturating_add(
+                r.counts.blocking_duration,
+                blocked,
+            )
+        }
+        _ => {}
     }
-    if kind == PADDING_SENT {
-        let more = numbers::saturating_add(r.counts.padding_sent, 1);
-        q.counts.padding_sent = more;
-        return q;
-    }
-    if kind == BLOCKING_END {
-        let more = numbers::saturating_add(r.counts.blocking_duration, blocked);
-        q.counts.blocking_duration = more;
-        return q;
-    }
-    r
+    q
 }
 
 // ---- whose turn it is
@@ -95,23 +84,14 @@ pub fn counted_by(kind: u64, blocked: u64, r: MachineRuntime) -> MachineRuntime
 fn own_only(kind: u64) -> bool
     ensures { result ≡ own_only kind }
 {
-    if kind == PADDING_SENT {
-        return true;
-    }
-    if kind == TIMER_BEGIN_KIND {
-        return true;
-    }
-    kind == TIMER_END_KIND
+    matches!(kind, PADDING_SENT | TIMER_BEGIN_KIND | TIMER_END_KIND)
 }
 
 // The first machine that hears an event.
 pub fn first_for(kind: u64, machine: u64) -> u64
     ensures { result ≡ first_for kind machine }
 {
-    if own_only(kind) {
-        return machine;
-    }
-    0
+    if own_only(kind) { machine } else { 0 }
 }
 
 // The machine after the last one that hears it; none does where its own machine is unknown.
@@ -120,29 +100,20 @@ pub fn end_for(kind: u64, machine: u64, count: u64) -> u64
     ensures is { result ≡ first_for kind machine + turns_for kind machine count }
     ensures within { (result ≤ first_for kind machine + 16) × (first_for kind machine < result → result ≤ 16) }
 {
-    if own_only(kind) {
-        if machine < count {
-            return machine + 1;
-        }
-        return machine;
+    if !own_only(kind) {
+        count
+    } else if machine < count {
+        machine + 1
+    } else {
+        machine
     }
-    count
 }
 
 // The state limit falls at a machine's own PaddingSent, BlockingBegin and TimerBegin.
 pub fn limit_falls(kind: u64, machine: u64, m: u64) -> bool
     ensures { result ≡ limit_falls kind machine m }
 {
-    if kind == PADDING_SENT {
-        return m == machine;
-    }
-    if kind == BLOCKING_BEGIN {
-        return m == machine;
-    }
-    if kind == TIMER_BEGIN_KIND {
-        return m == machine;
-    }
-    false
+    m == machine && matches!(kind, PADDING_SENT | BLOCKING_BEGIN | TIMER_BEGIN_KIND)
 }
 
 // ---- what a machine's transition reads

@@ -1,10 +1,7 @@
 pub mod Behind
-pub mod Row
-pub mod Copied
 pub mod Inserted
 pub mod Few
 pub mod Merged
 pub mod Halves
 pub mod Placed
-pub mod Listed
 pub mod Laws

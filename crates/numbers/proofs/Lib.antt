@@ -1,6 +1,4 @@
 -- What the proofs of this crate cite of plain numbers and floats.
-mod Doubled
-mod Tests
-mod Words
+mod Rounded
 pub mod Fraction
 pub mod Round

@@ -15,28 +15,18 @@ pub mod time;
 
 // ---- floats of words
 
-// The f64 of a bit pattern. Every NaN pattern gives the NaN: without the sign's bit it is a number
-// above the infinity's.
+// The f64 of a bit pattern. Every NaN pattern gives the NaN.
 pub fn f64_of_word(w: u64) -> f64
     ensures { result ≡ Ieee.of_bits binary64 w }
 {
-    if w % 0x8000_0000_0000_0000 > 0x7ff0_0000_0000_0000 {
-        0.0 / 0.0
-    } else {
-        f64::from_bits(w)
-    }
+    std::num::f64_from_bits_with_nan(w)
 }
 
 // The f32 of the bit pattern in a word's low 32 bits, NaN patterns as above.
 pub fn f32_of_word(w: u64) -> f32
     ensures { result ≡ Ieee.of_bits binary32 (w % 4294967296) }
 {
-    let bits = w % 4294967296;
-    if bits % 0x8000_0000 > 0x7f80_0000 {
-        0.0 / 0.0
-    } else {
-        f32::from_bits(bits as u32)
-    }
+    std::num::f32_from_bits_with_nan((w % 4294967296) as u32)
 }
 
 // ---- floats and whole numbers
@@ -52,36 +42,21 @@ fn count_as_f64(n: u64) -> f64
 pub fn cut(x: f64) -> u64
     ensures { result ≡ Ieee.to_unsigned 64 x }
 {
-    if x > -1.0 {
-        if x < 18446744073709551616.0 {
-            return std::num::truncating_f64_to_u64(x);
-        }
-        return u64::MAX;
-    }
-    0
+    std::num::saturating_f64_to_u64(x)
 }
 
-// Rust's `x.round() as u64`: to the nearest whole number, a half away from zero. Below 2^62 the
-// doubled x is exact, and its whole part counts the halves; from there on every f64 is whole.
+// Rust's `x.round() as u64`: to the nearest whole number, a half away from zero.
 pub fn round_half_away(x: f64) -> u64
     ensures { result ≡ round_away x }
 {
-    if x < 4611686018427387904.0 {
-        (cut(x + x) + 1) / 2
-    } else {
-        cut(x)
-    }
+    cut(x.round())
 }
 
 // Rust's `x.is_finite()`.
 pub fn is_finite(x: f64) -> bool
     ensures { result ≡ is_finite x }
 {
-    let infinity = 1.0 / 0.0;
-    if x < infinity {
-        return x > -infinity;
-    }
-    false
+    x.is_finite()
 }
 
 // ---- counts
@@ -90,7 +65,7 @@ pub fn is_finite(x: f64) -> bool
 pub fn saturating_add(a: u64, b: u64) -> u64
     ensures { result ≡ saturating_add a b }
 {
-    if a <= u64::MAX - b { a + b } else { u64::MAX }
+    a.saturating_add(b)
 }
 
 // Rust's `a.saturating_sub(b)`. The contract's minus is that of the natural numbers: 0 where b is
@@ -98,18 +73,19 @@ pub fn saturating_add(a: u64, b: u64) -> u64
 pub fn saturating_sub(a: u64, b: u64) -> u64
     ensures { result ≡ a - b }
 {
-    if b <= a { a - b } else { 0 }
+    a.saturating_sub(b)
 }
 
 // Rust's `a.min(b)`.
 pub fn smaller(a: u64, b: u64) -> u64
     ensures { result ≡ min a b }
 {
-    if a <= b { a } else { b }
+    a.min(b)
 }
 
 // Whether p of t reach the fraction f: the f64 quotient of the counts against f. 0 of 0 is a NaN
 // and does not reach it; 1 of 0 is an infinity and does.
+#[tactic(auto, unfolding(crate::specs::Fraction::reached))]
 pub fn fraction_reached(p: u64, t: u64, f: f64) -> bool
     ensures { result ≡ reached p t f }
 {

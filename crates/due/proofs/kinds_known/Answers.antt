@@ -1,57 +1,42 @@
--- `due::kinds_known` meets its contract: the rows before the turn have known kinds, so the question is that of the others.
-use Prim.Native.Nat.{ℕ, suc, ◌+◌, ◌-◌, ◌<◌}
-use mathlib.Core.Path.{◌≡◌, sym, ◌∙◌}
-use mathlib.Core.Bool.{◌&&◌}
-use mathlib.Core.List.{List}
-use native.Mathlib.Nat.{sub-zero}
+-- `due::kinds_known` meets its contract: its chunks are the rows.
+use Prim.Native.Nat.{ℕ, suc, ◌+◌, ◌/◌, ◌<◌}
+use mathlib.Core.Path.{◌≡◌, refl, ap, ◌∙◌}
+use mathlib.Core.List.{List, [], ◌∷◌, ◌++◌}
 use native.Mathlib.Omega.{arith}
-use lib.ListN.{drop}
-use lib.Seq.{drop-drop}
-use Rattle.machine.specs.Constants.{cancel, update_timer, row_words}
-use Rattle.due.specs.Due.{rows_of, known_kind, kinds_known}
-use Rattle.due.specs.Places.{row_at}
-use Rattle.due.proofs.Row.{kind_at}
-use borrow.Author.Tests.{le-leb, lt-leb}
+use lib.ListN.{length, length-append}
+use lib.Seq.{take_at, drop_at}
+use borrow.Author.Rules.{rules}
+use borrow.Author.Tests.{tests}
+use Rattle.std.specs.List.{list_all}
+use Rattle.std.specs.Slice.Iter.{chunks_exact_rest, chunks_exact_size, chunks_exact_steps}
+use Rattle.std.proofs.lemmas.Iterator.Search.{all_from_yields_List}
+use Rattle.std.proofs.lemmas.Iterator.Splits.{YieldsList-from_shown_while}
+use Rattle.machine.specs.Constants.{row_words}
+use Rattle.due.specs.Due.{rows_of, all_rows, known_kind, kinds_known}
 use Rattle.due.proofs.kinds_known.Goals as goal
 
-next_row : (rows : List ℕ) (n i at : ℕ) → i < n
-    → kinds_known (rows_of (n - i) (drop at rows))
-    ≡ known_kind (row_at rows at) && kinds_known (rows_of (n - (i + 1)) (drop (at + row_words) rows))
-unfolding rows_of kinds_known
-next_row rows n i at h =
-    let e : n - i ≡ suc (n - (i + 1)) = omega arith in
-    rw (e, drop-drop)
+no_rows_left : (words : List ℕ) → length words < row_words → length (all_rows words) ≡ 0
+unfolding rows_of
+no_rows_left words h = let e : length words / row_words ≡ 0 = omega arith in rw e
 
-pub loop-i-init : goal.loop-i-init
-loop-i-init c = (omega arith, omega arith, rw sub-zero)
+row_left : (words row rest : List ℕ) → words ≡ row ++ rest → length row ≡ row_words → all_rows words ≡ row ∷ all_rows rest
+unfolding rows_of
+row_left words row rest e l =
+    let n : length words ≡ row_words + length rest = omega (arith, ap length e, length-append row rest) in
+    let k : length words / row_words ≡ suc (length rest / row_words) = omega arith in
+    rw (k, e, take_at row rest row_words l, drop_at row rest row_words l)
 
-pub returns-then-kind-lt-CANCEL : goal.returns-then-kind-lt-CANCEL
-returns-then-kind-lt-CANCEL c =
-    let a = c.args in
-    let l = c.loop-i in
-    sym (l.invariant.2 ∙ rw (next_row a.rows.now a.n l.i l.at (omega arith), kind_at, lt-leb cancel _ c.if-kind-lt-CANCEL.true))
-
-pub returns-then-kind-gt-UPDATE_TIMER : goal.returns-then-kind-gt-UPDATE_TIMER
-returns-then-kind-gt-UPDATE_TIMER c =
-    let a = c.args in
-    let l = c.loop-i in
-    sym
-    (l.invariant.2
-    ∙ rw (next_row a.rows.now a.n l.i l.at (omega arith), kind_at, le-leb cancel _ c.if-kind-lt-CANCEL.false, lt-leb _ update_timer c.if-kind-gt-UPDATE_TIMER.true))
-
-pub loop-i-preserved : goal.loop-i-preserved
-loop-i-preserved c =
-    let a = c.args in
-    let l = c.loop-i in (
-      omega arith,
-      omega arith,
-      l.invariant.2
-          ∙ rw (next_row a.rows.now a.n l.i l.at (omega arith), kind_at, le-leb cancel _ c.if-kind-lt-CANCEL.false, le-leb _ update_timer c.if-kind-gt-UPDATE_TIMER.false),
-    )
+all_known : (rows : List (List ℕ)) → list_all known_kind rows ≡ kinds_known rows
+unfolding kinds_known
+all_known [] = refl
+all_known (row ∷ rows) = rw (all_known rows)
 
 pub returns : goal.returns
-unfolding rows_of kinds_known
 returns c =
-    let l = c.loop-i in
-    let e : c.args.n - l.i ≡ 0 = omega arith in
-    sym (rw e at l.invariant.2)
+    all_from_yields_List known_kind _ _ _ c.all.ensures.ran
+    (YieldsList-from_shown_while chunks_exact_steps (λ x. x.now) (λ s. all_rows (chunks_exact_rest s)) (λ s. chunks_exact_size s ≡ row_words)
+    (λ s t p h. no_rows_left (chunks_exact_rest s) (omega (arith, p, h)))
+    (λ s x t p h. (h.0 ∙ p, row_left (chunks_exact_rest s) x.now (chunks_exact_rest t) h.1.0 (h.1.1 ∙ p)))
+    c.chunks_exact.result c.chunks_exact.ensures.size)
+    (λ x b q k. search (rules, tests))
+    ∙ all_known (all_rows (chunks_exact_rest c.chunks_exact.result)) ∙ ap (λ (words : List ℕ). kinds_known (all_rows words)) c.chunks_exact.ensures.rest

@@ -1,13 +1,15 @@
--- `numbers::is_finite` meets its contract: a number lies between the two infinities. Assumes
--- nothing.
-use lib.Ieee.{of_bits, div, neg}
-use Rattle.numbers.proofs.Tests.{finite_below, not_below}
+-- `numbers::is_finite` meets its contract: it is that of the standard library's method. Assumes nothing.
+use Rattle.std.proofs.Common.{◌≡◌, refl, ◌∙◌}
+use Rattle.std.specs.Float.{float_is_finite}
+use lib.Ieee.{Float, nan, inf, fin}
+use Rattle.numbers.specs.Finite.{is_finite}
 use Rattle.numbers.proofs.is_finite.Goals as goal
 
-pub returns-then-x-infinity : goal.returns-then-x-infinity
-unfolding of_bits div neg
-returns-then-x-infinity c = finite_below c.args.x c.if-x-infinity.true
+same_finite : (x : Float) → float_is_finite x ≡ is_finite x
+unfolding float_is_finite is_finite
+same_finite nan = refl
+same_finite (inf s) = refl
+same_finite (fin s m e) = refl
 
 pub returns : goal.returns
-unfolding of_bits div
-returns c = not_below c.args.x c.if-x-infinity.false
+returns c = c.is_finite.ensures.value ∙ same_finite c.args.x
