@@ -10,11 +10,7 @@ fn put_spaces(line: &mut [u8], at: usize, end: usize)
     requires { (at ≤ end) × (end ≤ length line.old) }
     ensures { line.new ≡ spaces_in at end line.old }
 {
-    let mut i = at;
-    while i < end {
-        line[i] = b' ';
-        i += 1;
-    }
+    line[at..end].fill(b' ');
 }
 
 // Puts the digits of a number below 100 before `end`; where there are fewer than two columns, of any.
@@ -40,6 +36,7 @@ fn put_digits(line: &mut [u8], at: usize, end: usize, n: u64)
     requires { (at ≤ end) × (end ≤ length line.old) }
     ensures { line.new ≡ digits_in at end n line.old }
 {
+    // by index: it ends with the digits or with the columns, two places a turn
     let mut i = end;
     let mut rest = n;
     while 100 <= rest && 2 <= i - at {
@@ -70,10 +67,8 @@ pub fn put_numbers(line: &mut [u8], width: usize, numbers: &[u64])
         ≡ rights width numbers.now ++ drop (width * length numbers.now) line.old }
 {
     let mut at = 0;
-    let mut i = 0;
-    while i < numbers.len() {
-        put_number(line, at, width, numbers[i]);
+    for n in numbers {
+        put_number(line, at, width, *n);
         at += width;
-        i += 1;
     }
 }

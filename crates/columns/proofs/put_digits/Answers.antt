@@ -3,33 +3,12 @@ use Prim.Native.Nat.{◌-◌, ◌≤◌}
 use mathlib.Core.Path.{refl, ◌∙◌}
 use native.Mathlib.Omega.{arith}
 use lib.ListN.{length-set}
-use borrow.Author.Tests.{leb-true}
 use Rattle.columns.proofs.Places.{two_more}
 use Rattle.columns.proofs.put_digits.Goals as goal
 use Rattle.columns.proofs.put_digits.Goals.{then-loop-rest-test+else-i-at-ge2, else-loop-rest-test}
 
 pub loop-rest-init : goal.loop-rest-init
 loop-rest-init c = (c.requires.0, omega arith, refl, refl)
-
-pub overflow_sub-line : goal.overflow_sub-line
-overflow_sub-line c = omega (arith, leb-true)
-
-pub bounds-line-i : goal.bounds-line-i
-bounds-line-i c = omega (arith, leb-true, c.loop-rest.invariant.2)
-
-pub overflow_sub-line-in-loop-rest : goal.overflow_sub-line-in-loop-rest
-overflow_sub-line-in-loop-rest c = omega (arith, leb-true)
-
-pub bounds-line-i-in-loop-rest : goal.bounds-line-i-in-loop-rest
-bounds-line-i-in-loop-rest c =
-    let inside = c.loop-rest.invariant.2 in
-    simp length-set (omega (arith, leb-true))
-
-pub overflow_sub-i-in-loop-rest : goal.overflow_sub-i-in-loop-rest
-overflow_sub-i-in-loop-rest c = omega (arith, leb-true)
-
-pub loop-rest-smaller : goal.loop-rest-smaller
-loop-rest-smaller c = omega (arith, leb-true)
 
 pub loop-rest-preserved : goal.loop-rest-preserved
 loop-rest-preserved c =

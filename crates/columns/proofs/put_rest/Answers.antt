@@ -1,8 +1,7 @@
 -- `columns::put_rest` meets its contract.
-use Prim.Native.Nat.{ℕ, ◌+◌, ◌-◌, ◌%◌}
+use Prim.Native.Nat.{ℕ, ◌-◌}
 use mathlib.Core.Path.{sym, ap, ◌∙◌}
 use native.Mathlib.Omega.{arith}
-use lib.ListN.{length-set}
 use Rattle.columns.specs.Parts.{digits_in}
 use Rattle.columns.proofs.Places.{no_digit, first_digit, one_left, two_left}
 use Rattle.columns.proofs.put_rest.Goals as goal
@@ -16,17 +15,6 @@ pub returns-then-n-lt10 : goal.returns-then-n-lt10
 returns-then-n-lt10 c =
     let a = c.args in
     first_digit a.line.now a.at a.n a.end (a.end - 1) (omega arith) (omega arith) (omega arith) c.if-n-lt10.true
-
-pub overflow_cast-line-then-at-end : goal.overflow_cast-line-then-at-end
-overflow_cast-line-then-at-end c = record { fits = omega (arith, c.requires.2 (omega arith)) }
-
-pub overflow_add-line-then-at-end : goal.overflow_add-line-then-at-end
-overflow_add-line-then-at-end c = record { fits = omega (arith, c.requires.2 (omega arith)) }
-
-pub bounds-line-end-then-at-end : goal.bounds-line-end-then-at-end
-bounds-line-end-then-at-end c =
-    let a = c.args in
-    omega (arith, length-set a.line.now (a.end - 1) (48 + a.n % 10))
 
 pub returns-then-at-end : goal.returns-then-at-end
 returns-then-at-end c =
