@@ -1,25 +1,15 @@
--- `cells::last` meets its contract: one case for each arm.
-use mathlib.Core.Path.{sym, ◌∙◌}
-use native.Mathlib.Omega.{arith}
-use Rattle.cells.proofs.Columns.{last_other, last_large, last_digit}
+-- `cells::last` meets its contract: one case for each return.
+use Rattle.std.proofs.Common.{◌∙◌, arith}
+use Rattle.cells.proofs.Columns.{no_value, last_other, last_large, last_digit}
 use Rattle.cells.proofs.last.Goals as goal
 
-pub digit-d-requires : goal.digit-d-requires
-digit-d-requires c = sym c.is_digit.ensures ∙ c.if-is_digit.true
+pub returns-in_err-d : goal.returns-in_err-d
+returns-in_err-d c = c.from_residual.ensures ∙ last_other c.args.n c.args.b (no_value c.args.b c.in_err-d.ensures)
 
-pub returns-then-d-n : goal.returns-then-d-n
-returns-then-d-n c =
-    let a = c.args in
-    let d = sym c.is_digit.ensures ∙ c.if-is_digit.true in
-    let v = c.digit-d.ensures.0 in
-    c.no_cell.ensures ∙ last_large a.n a.b d (omega (arith, c.if-d-n.true))
-
-pub returns-then-is_digit : goal.returns-then-is_digit
-returns-then-is_digit c =
-    let a = c.args in
-    let d = sym c.is_digit.ensures ∙ c.if-is_digit.true in
-    let v = c.digit-d.ensures.0 in
-    rw v (last_digit a.n a.b d (omega (arith, c.if-d-n.false)))
+pub returns-in_err-checked_mul : goal.returns-in_err-checked_mul
+returns-in_err-checked_mul c =
+    c.from_residual-in_err-checked_mul.ensures ∙ last_large c.args.n c.args.b c.in_ok-d.d c.in_ok-d.ensures (omega (arith, c.in_err-checked_mul.ensures))
 
 pub returns : goal.returns
-returns c = c.no_cell-2.ensures ∙ last_other _ _ (sym c.is_digit.ensures ∙ c.if-is_digit.false)
+returns c =
+    last_digit c.args.n c.args.b c.in_ok-d.d c.in_ok-checked_mul.field-0 c.checked_add.result c.in_ok-d.ensures (omega (arith, c.in_ok-checked_mul.ensures)) c.checked_add.ensures

@@ -1,32 +1,16 @@
--- `cells::read_on` meets its contract: one case for each arm.
-use mathlib.Core.Path.{sym, ◌∙◌}
-use native.Mathlib.Omega.{arith}
-use Rattle.cells.proofs.Columns.{before_digits, behind_digits, no_digit, leading_zero, one_digit}
+-- `cells::read_on` meets its contract: one case for each return.
+use Rattle.std.proofs.Common.{◌∙◌, arith}
+use Rattle.cells.proofs.Columns.{no_value, value, space_column, no_digit, digit_column}
 use Rattle.cells.proofs.read_on.Goals as goal
 
-pub returns-then-n-eq0 : goal.returns-then-n-eq0
-returns-then-n-eq0 c = before_digits _ _ c.if-b-eq32.true c.if-n-eq0.true
-
 pub returns-then-b-eq32 : goal.returns-then-b-eq32
-returns-then-b-eq32 c = behind_digits _ _ c.if-b-eq32.true c.if-n-eq0.false
+returns-then-b-eq32 c = c.then_some.ensures ∙ space_column c.args.n c.args.b c.if-b-eq32.true
 
-pub digit-requires : goal.digit-requires
-digit-requires c = sym c.is_digit.ensures ∙ c.if-is_digit.true
+pub returns-in_err-m : goal.returns-in_err-m
+returns-in_err-m c = c.from_residual.ensures ∙ no_digit c.args.n c.args.b c.if-b-eq32.false (no_value c.args.b c.in_err-m.ensures)
 
-pub returns-then-m-eq0 : goal.returns-then-m-eq0
-returns-then-m-eq0 c =
-    let a = c.args in
-    let d = sym c.is_digit.ensures ∙ c.if-is_digit.true in
-    let v = c.digit.ensures.0 in
-    leading_zero a.n a.b c.if-b-eq32.false d (omega (arith, c.if-m-eq0.true))
-
-pub returns-then-is_digit : goal.returns-then-is_digit
-returns-then-is_digit c =
-    let a = c.args in
-    let d = sym c.is_digit.ensures ∙ c.if-is_digit.true in
-    let v = c.digit.ensures.0 in
-    rw v
-    (one_digit a.n a.b c.if-b-eq32.false d (λ e. c.if-m-eq0.false (omega (arith, e))))
+pub overflow_add-m : goal.overflow_add-m
+overflow_add-m c = record { fits = omega (arith, value c.args.b c.in_ok-m.field-0 c.in_ok-m.ensures) }
 
 pub returns : goal.returns
-returns c = no_digit _ _ c.if-b-eq32.false (sym c.is_digit.ensures ∙ c.if-is_digit.false)
+returns c = c.then_some-2.ensures ∙ digit_column c.args.n c.args.b c.in_ok-m.field-0 c.if-b-eq32.false c.in_ok-m.ensures
