@@ -5,7 +5,7 @@ use mathlib.Core.Bool.{Bool, true, false, cond, and-eq-true_iff, false≢true}
 use mathlib.Core.List.{List, [], ◌∷◌, ◌++◌}
 use native.Mathlib.Omega.{arith}
 use native.Mathlib.Numerals.{add-one}
-use native.Mathlib.Nat.{pow-suc, pow-zero, add-zero, add-suc}
+use native.Mathlib.Nat.{pow-suc, pow-zero, pow-le-pow_right, add-zero, add-suc}
 use lib.ListN.{length, take, drop, get_or}
 use lib.Seq.{take_all, take-append-le, take-suc, take_at, get_or_at, get_or-take, get_or-drop, take-take, take-length}
 use lib.Dec.{eqb, ltb, leb, lit<}
@@ -132,14 +132,14 @@ one_number : (w a b : ℕ) → a < 10 ^ w → b < 10 ^ w → rests w a ≡ rests
 one_number w a b h g e = sym (read_rests w a h) ∙ ap read_back e ∙ read_rests w b g
 
 -- the first column has no digit, so a number of i + 1 columns is below 10 ^ i
-pub below : (i n : ℕ) → n < 10 ^ i → n < 10 ^ (i + 1)
+below : (i n : ℕ) → n < 10 ^ i → n < 10 ^ (i + 1)
 below i n h = rw add-one (omega (arith, pow-suc 10 i))
 
-pub below_next : (i n m : ℕ) → n < 10 ^ i → m / 10 ≡ n → m < 10 ^ (i + 1)
+below_next : (i n m : ℕ) → n < 10 ^ i → m / 10 ≡ n → m < 10 ^ (i + 1)
 below_next i n m h e = rw add-one (omega (arith, pow-suc 10 i))
 
 -- one column more of the number m
-pub grows : (bytes : List ℕ) (i m : ℕ) → i < length bytes → take i bytes ≡ rests i (m / 10) → get_or bytes i 0 ≡ mark m
+grows : (bytes : List ℕ) (i m : ℕ) → i < length bytes → take i bytes ≡ rests i (m / 10) → get_or bytes i 0 ≡ mark m
     → take (i + 1) bytes ≡ rests (i + 1) m
 unfolding rests
 grows bytes i m l e b = rw (add-one, take-suc bytes i 0 l, e, b)
@@ -173,7 +173,7 @@ module _ (bytes : List ℕ) (v : ℕ) (is_right : bytes ≡ right word_columns v
       )
 
 -- the columns between the first and the last
-pub between : (bytes : List ℕ) (k : ℕ) → k < 19 → get_or (take 19 (drop 1 bytes)) k 0 ≡ get_or bytes (k + 1) 0
+between : (bytes : List ℕ) (k : ℕ) → k < 19 → get_or (take 19 (drop 1 bytes)) k 0 ≡ get_or bytes (k + 1) 0
 between bytes k h =
     let e : 1 + k ≡ k + 1 = omega arith in
     get_or-take 19 (drop 1 bytes) k 0 h ∙ get_or-drop 1 bytes k 0 ∙ ap (λ (i : ℕ). get_or bytes i 0) e
@@ -194,7 +194,7 @@ column_on m = by_zero (eqb m 0) refl
         rw e (ap Some (sym v) ∙ one_digit (m / 10) (48 + m % 10) (λ z. omega (arith, z)) (bounds_digit (48 + m % 10) (omega arith) (omega arith)) (λ z. ne (sym v ∙ z)))
 
 -- and no other byte goes on
-pub on_column : (n b m : ℕ) → column_of n b ≡ Some m → (m / 10 ≡ n) × (b ≡ mark m)
+on_column : (n b m : ℕ) → column_of n b ≡ Some m → (m / 10 ≡ n) × (b ≡ mark m)
 unfolding column_of
 on_column n b m h = by-space (eqb b 32) refl h
   where
@@ -239,7 +239,7 @@ no_word bytes h = by-cell (is_cell bytes) refl
 
 module _ (bytes : List ℕ) (i n : ℕ) (so_far : take i bytes ≡ rests i n) (small : n < 10 ^ i) where
   -- a byte that goes on with no number
-  pub stops : i < 20 → column_of n (get_or bytes i 0) ≡ None → None ≡ cell_of bytes
+  stops : i < 20 → column_of n (get_or bytes i 0) ≡ None → None ≡ cell_of bytes
   stops l off = sym (no_word bytes no)
     where
       no : (v : ℕ) → v < 2 ^ 64 → bytes ≡ right word_columns v → ⊥
@@ -253,6 +253,24 @@ module _ (bytes : List ℕ) (i n : ℕ) (so_far : take i bytes ≡ rests i n) (s
           let e : m / 10 ≡ n = one_number i (m / 10) n b small (sym a.0 ∙ so_far) in
           let on : Some m ≡ column_of n (get_or bytes i 0) = rw (← e, a.1) (column_on m) in
           cc
+
+-- byte i + 1, where the columns before it are those of the number n
+module _ (bytes : List ℕ) (i n : ℕ) (so_far : take (i + 1) bytes ≡ rests (i + 1) n) (small : n < 10 ^ i) (more : i < 19) where
+  abbrev next : ℕ
+  next = get_or (take 19 (drop 1 bytes)) i 0
+
+  -- the number is small enough for a digit more
+  pub few_digits : n < 10 ^ 18
+  few_digits = omega (arith, pow-le-pow_right {n = 10} (omega arith) {i = i} {j = 18} (omega arith))
+
+  pub stopped : None ≡ column_of n next → None ≡ cell_of bytes
+  stopped off = stops bytes (i + 1) n so_far (below i n small) (omega arith) (rw (between bytes i more) at (sym off))
+
+  pub gone_on : (m : ℕ) → i + 1 < length bytes → Some m ≡ column_of n next
+      → (m < 10 ^ (i + 1)) × (take (i + 1 + 1) bytes ≡ rests (i + 1 + 1) m)
+  gone_on m l on =
+      let g = on_column n next m (sym on) in
+      (below_next i n m small g.0, grows bytes (i + 1) m l (rw g.0 so_far) (sym (between bytes i more) ∙ g.1))
 
 module _ (bytes : List ℕ) where
   -- no word has 21 digits

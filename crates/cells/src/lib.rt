@@ -23,6 +23,7 @@ fn digit(b: u8) -> Option<u64>
 
 // The number with one column more, left of the last; nothing where no number has this byte there. A space stands before
 // the first digit, and the first digit is not 0.
+#[tactic(auto, using(crate::proofs::Columns::no_value, crate::proofs::Columns::value, crate::proofs::Columns::space_column, crate::proofs::Columns::no_digit, crate::proofs::Columns::digit_column))]
 fn read_on(n: u64, b: u8) -> Option<u64>
     requires { n < 10 ^ 18 }
     ensures { result ≡ column_of n b }
@@ -35,6 +36,7 @@ fn read_on(n: u64, b: u8) -> Option<u64>
 }
 
 // The last column has a digit, with which the word may grow too large.
+#[tactic(auto, using(crate::proofs::Columns::no_value, crate::proofs::Columns::last_other, crate::proofs::Columns::last_large, crate::proofs::Columns::last_digit))]
 fn last(n: u64, b: u8) -> Option<u64>
     ensures { result ≡ last_of n b }
 {
@@ -43,6 +45,7 @@ fn last(n: u64, b: u8) -> Option<u64>
 }
 
 // The word whose columns the bytes are, where they are a word's. The first column has a space: no u64 has 21 digits.
+#[tactic(auto, using(crate::proofs::Columns::first_digit, crate::proofs::Columns::first_space, crate::proofs::Columns::few_digits, crate::proofs::Columns::stopped, crate::proofs::Columns::ends))]
 pub fn cell_of(bytes: &[u8]) -> Option<u64>
     requires { length bytes.now ≡ word_columns }
     ensures { result ≡ cell_of bytes.now }
@@ -60,6 +63,7 @@ pub fn cell_of(bytes: &[u8]) -> Option<u64>
 // ---- the words of a row
 
 // How many words' columns stand at the front, one behind the other, of so many.
+#[tactic(auto, using(crate::specs::Laws::passed_more, crate::specs::Laws::passed_fails, crate::specs::Laws::passed_all, crate::proofs::Columns::tested))]
 pub fn good_cells(bytes: &[u8], words: usize) -> usize
     requires { word_columns * words ≤ length bytes.now }
     ensures { result ≡ leading is_cell word_columns words bytes.now }
