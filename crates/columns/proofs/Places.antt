@@ -96,7 +96,7 @@ module _ (l : List ℕ) (at n end : ℕ) (inside : end ≤ length l) where
 -- ---- digits over spaces
 
 module _ (l : List ℕ) (at w n : ℕ) where
-  pub over_spaces : at + w ≤ length l → digits_in at (at + w) n (spaces_in at (at + w) l) ≡ cell_in at w n l
+  over_spaces : at + w ≤ length l → digits_in at (at + w) n (spaces_in at (at + w) l) ≡ cell_in at w n l
   unfolding digits_in spaces_in cell_in
   over_spaces h =
       let z : at + w - at ≡ w = omega arith in
@@ -117,3 +117,8 @@ module _ (l : List ℕ) (at w n : ℕ) where
       rw (← (append_assoc (take at l) (replicate w 32) (drop (at + w) l)))
       (drop_at (take at l ++ replicate w 32) (drop (at + w) l) (at + w) (length-append (take at l) (replicate w 32) ∙ rw (a, length-replicate) (omega arith))) in
       rw (z, t, d, right_is w n) (simp append_assoc)
+
+  -- all columns become spaces, and the digits go over them
+  pub celled : (spaces out : List ℕ) → spaces ≡ spaces_in at (at + w) l → out ≡ digits_in at (at + w) n spaces → at + w ≤ length l
+      → out ≡ cell_in at w n l
+  celled spaces out s d h = d ∙ ap (digits_in at (at + w) n) s ∙ over_spaces h
