@@ -7,6 +7,7 @@ use super::KIND_COLUMNS;
 use cells::WORD_COLUMNS;
 
 // Puts a row's line at the start of line.
+#[tactic(auto, using(crate::proofs::Written::lined))]
 fn put_line(kind: u64, row: &[u64], line: &mut [u8])
     requires { line_bytes (length row.now) ≤ length line.old }
     ensures { line.new
@@ -19,19 +20,14 @@ fn put_line(kind: u64, row: &[u64], line: &mut [u8])
 }
 
 // Puts the lines of the first n rows of a table at the start of sheet; a row has so many words, and a line so many bytes.
+#[tactic(auto, using(crate::proofs::Places::place, crate::proofs::Written::one_line), unfolding(cells::specs::Cells::each))]
 pub fn put_lines(kind: u64, n: usize, words: usize, size: usize, table: &[u64], sheet: &mut [u8])
     requires { (size ≡ line_bytes words) × (words * n ≤ length table.now) × (size * n ≤ length sheet.old) }
     ensures { sheet.new
         ≡ each (line_of kind) words n table.now ++ drop (size * n) sheet.old }
 {
-    let mut row = 0;
-    let mut at = 0;
-    let mut i = 0;
-    while i < n {
-        let end = row + words;
-        put_line(kind, &table[row..end], &mut sheet[at..]);
-        row = end;
-        at += size;
-        i += 1;
+    for i in 0..n {
+        let row = words * i;
+        put_line(kind, &table[row..row + words], &mut sheet[size * i..]);
     }
 }
