@@ -4,7 +4,7 @@ ghost use Rattle.columns.specs.Columns.{right};
 ghost use Rattle.machine.specs.Same.{same};
 ghost use Rattle.lines.specs.Lines.{kind_columns, line_bytes, is_line, words_of, lines as lines_in, table_of};
 
-use super::KIND_COLUMNS;
+use super::{KIND_COLUMNS, LineKind};
 use cells::WORD_COLUMNS;
 
 // ---- judging
@@ -18,28 +18,28 @@ fn has_kind(line: &[u8], kind: u64) -> bool
     line[..KIND_COLUMNS] == [b' ', b' ', b' ', b'0' + kind as u8]
 }
 
-// Whether bytes are a line of this kind, with so many words.
+// Whether bytes are a line of this kind.
 #[tactic(auto, using(crate::proofs::Kind::line_test))]
-fn is_line(line: &[u8], kind: u64, words: usize) -> bool
-    requires { (length line.now ≡ line_bytes words) × (kind < 10) }
-    ensures { result ≡ is_line kind words line.now }
+fn is_line(line: &[u8], kind: LineKind) -> bool
+    requires { (length line.now ≡ kind.size) × (kind.number < 10) }
+    ensures { result ≡ is_line kind.number kind.words line.now }
 {
-    has_kind(line, kind)
-        && cells::good_cells(&line[KIND_COLUMNS..], words) == words
+    has_kind(line, kind.number)
+        && cells::good_cells(&line[KIND_COLUMNS..], kind.words) == kind.words
         && line[line.len() - 1] == b'\n'
 }
 
-// How many lines of this kind stand at the front; a line has so many words and bytes.
+// How many lines of this kind stand at the front.
 #[tactic(auto, using(crate::proofs::Places::inside, crate::proofs::Places::all_inside, cells::specs::Laws::passed_none, cells::specs::Laws::passed_more, cells::specs::Laws::passed_fails, cells::specs::Laws::passed_all, crate::proofs::Kind::line_at), unfolding(crate::specs::Lines::lines))]
-pub fn lines(text: &[u8], kind: u64, words: usize, size: usize) -> usize
-    requires { (size ≡ line_bytes words) × (kind < 10) }
-    ensures is { result ≡ lines_in kind words text.now }
-    ensures inside { size * result ≤ length text.now }
+pub fn lines(text: &[u8], kind: LineKind) -> usize
+    requires { kind.number < 10 }
+    ensures is { result ≡ lines_in kind.number kind.words text.now }
+    ensures inside { kind.size * result ≤ length text.now }
 {
-    let most = text.len() / size;
+    let most = text.len() / kind.size;
     for i in 0..most {
-        let at = size * i;
-        if !is_line(&text[at..at + size], kind, words) {
+        let at = kind.size * i;
+        if !is_line(&text[at..at + kind.size], kind) {
             return i;
         }
     }
@@ -61,13 +61,18 @@ fn put_words(line: &[u8], words: usize, row: &mut [u64])
 }
 
 // Puts the rows of the first n lines at the start of table.
-#[tactic(auto, using(crate::proofs::Places::place, crate::proofs::Filled::one_row), unfolding(crate::specs::Lines::table_of, cells::specs::Cells::each))]
-pub fn put_rows(text: &[u8], n: usize, words: usize, size: usize, table: &mut [u64])
-    requires { (size ≡ line_bytes words) × (size * n ≤ length text.now) × (words * n ≤ length table.old) }
-    ensures { table.new ≡ table_of words n text.now ++ drop (words * n) table.old }
+#[tactic(auto, using(crate::proofs::Places::place), unfolding(crate::specs::Lines::table_of, cells::specs::Cells::each))]
+pub fn put_rows(text: &[u8], n: usize, kind: LineKind, table: &mut [u64])
+    requires { (kind.size * n ≤ length text.now) × (kind.words * n ≤ length table.old) }
+    ensures { table.new
+        ≡ table_of kind.words n text.now ++ drop (kind.words * n) table.old }
 {
     for i in 0..n {
-        let at = size * i;
-        put_words(&text[at..at + size], words, &mut table[words * i..]);
+        let at = kind.size * i;
+        put_words(
+            &text[at..at + kind.size],
+            kind.words,
+            &mut table[kind.words * i..],
+        );
     }
 }

@@ -4,4 +4,4 @@ use Rattle.lines.specs.Lines.{is_line}
 use Rattle.lines.proofs.reading.lines.Given as goal
 
 abbrev pub invariant-loop-i : goal.invariant-loop-i
-invariant-loop-i l = Passed (is_line l.kind l.words) l.size (length l.text / l.size) l.text l.i
+invariant-loop-i l = Passed (is_line l.kind.number l.kind.words) l.kind.size (length l.text / l.kind.size) l.text l.i
