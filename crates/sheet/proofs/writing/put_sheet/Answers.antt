@@ -6,10 +6,10 @@ use Rattle.sheet.proofs.writing.put_sheet.Goals as goal
 
 pub returns : goal.returns
 returns c =
-    let a = c.args in
+    let a = c.args.tables.now in
     let M = a.machines.now in
     let S = a.states.now in
     let T = a.transitions.now in (
       sym (length-sheet M S T ∙ omega arith),
-      sheeted M S T a.sheet.now _ _ _ c.put_lines.ensures c.put_lines-2.ensures c.put_lines-3.ensures,
+      sheeted M S T c.args.sheet.now _ _ _ c.put_lines.ensures c.put_lines-2.ensures c.put_lines-3.ensures,
     )
