@@ -10,14 +10,14 @@ use Rattle.machine.specs.Constants.{machine_words, state_words, transition_words
 use Rattle.lines.specs.Lines.{table_of}
 use Rattle.sheet.specs.Sheet.{bytes_of, sheet_of}
 use Rattle.sheet.specs.Writer.{whole_rows, write_refusal, over, Written, sheet_write, Writes}
-use Rattle.sheet.specs.Reader.{machine_lines, state_lines, transition_lines, behind_machines, behind_states, Form, rows_in, form_of, room_for, read_refusal, no_rows, Read, sheet_read, Reads}
+use Rattle.sheet.specs.Reader.{machine_lines, state_lines, transition_lines, behind_machines, behind_states, rows_in, form_of, room_for, read_refusal, no_rows, Read, sheet_read, Reads}
 use Rattle.sheet.proofs.RoundTrip.Form.{length-machines, length-states, length-transitions}
 use Rattle.sheet.proofs.RoundTrip.Calls.{reads}
 use Rattle.sheet.specs.declared.SheetRows.{SheetRows}
 use Rattle.sheet.specs.declared.SheetBytes.{SheetBytes}
 use Rattle.sheet.specs.declared.reading.Rows.{Rows}
 use Rattle.sheet.specs.Steps.{judged}
-use Rattle.std.specs.Prelude.{Result, Ok, Err}
+use Rattle.std.specs.Prelude.{Ok, Err}
 use Rattle.refusal.specs.Refusal.{number}
 use Rattle.refusal.specs.declared.Refusal.{Refusal}
 use Rattle.refusal.specs.declared.Refusal.TheVariants as R

@@ -3,8 +3,8 @@ ghost use Rattle.std.specs.Prelude.{◌≡◌, ◌++◌, ◌*◌, ◌≤◌, len
 ghost use Rattle.machine.specs.Constants.{machine_words, state_words, transition_words};
 ghost use Rattle.lines.specs.Lines.{table_of};
 ghost use Rattle.sheet.specs.Sheet.{bytes_of};
-ghost use Rattle.sheet.specs.Reader.{behind_machines, behind_states, form_of, rows_in};
-ghost use Rattle.sheet.specs.Steps.{judged};
+ghost use Rattle.sheet.specs.Reader.{behind_machines, behind_states, form_of, rows_in, room_for, Reads};
+ghost use Rattle.sheet.specs.Steps.{judged, read_answer};
 
 use super::line::{MACHINE, STATE, TRANSITION};
 use lines::reading::{lines, put_rows};
@@ -61,4 +61,32 @@ pub fn put_tables(
     put_rows(sheet, rows.machines, MACHINE, machines);
     put_rows(&sheet[behind..], rows.states, STATE, states);
     put_rows(&sheet[rest..], rows.transitions, TRANSITION, transitions);
+}
+
+// Whether so many rows fit into the three tables.
+#[tactic(auto, unfolding(crate::specs::Reader::room_for))]
+fn has_room(rows: Rows, machines: usize, states: usize, transitions: usize) -> bool
+    ensures { result ≡ room_for rows machines states transitions }
+{
+    rows.machines <= machines / MACHINE.words
+        && rows.states <= states / STATE.words
+        && rows.transitions <= transitions / TRANSITION.words
+}
+
+// Reads a sheet into the lent tables, and answers how many rows of each.
+pub fn read_rows(
+    sheet: &[u8],
+    machines: &mut [u64],
+    states: &mut [u64],
+    transitions: &mut [u64],
+) -> Result<Rows, Refusal>
+    ensures { Reads sheet.now machines.old states.old transitions.old
+        (read_answer result) machines.new states.new transitions.new }
+{
+    let rows = form_of(sheet)?;
+    if !has_room(rows, machines.len(), states.len(), transitions.len()) {
+        return Err(Refusal::NoSheetRoom);
+    }
+    put_tables(sheet, rows, machines, states, transitions);
+    Ok(rows)
 }

@@ -5,6 +5,7 @@ ghost use Rattle.std.specs.Prelude.{◌≡◌, ◌++◌, ◌≤◌, length, drop
 ghost use Rattle.sheet_check.specs.Verdict.{verdict_line, judged_line, report_line, line_length};
 
 use machine::constants::{MACHINE_WORDS, STATE_WORDS, TRANSITION_WORDS};
+use refusal::Refusal;
 use sheet::SheetRows;
 use sheet::line::{MACHINE_LINE, STATE_LINE, TRANSITION_LINE};
 
@@ -57,7 +58,7 @@ fn report(bytes: &[u8], line: &mut [u8])
     ensures { line.new ≡ report_line bytes.now ++ drop line_length line.old }
 {
     if SHEET < bytes.len() {
-        verdict_line(line, sheet::unread(23), 0);
+        verdict_line(line, sheet::unread(Refusal::NoSheetRoom.into()), 0);
         return;
     }
     let mut machines = [0u64; MACHINES];

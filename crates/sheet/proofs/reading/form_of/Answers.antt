@@ -1,5 +1,5 @@
 -- `sheet::reading::form_of` meets its contract: the lines of each kind behind those of the kind before.
-use Rattle.sheet.proofs.Formed.{all_lines, more_behind, formed_inside}
+use Rattle.sheet.proofs.Formed.{all_lines, more_behind}
 use Rattle.sheet.proofs.reading.form_of.Goals as goal
 
 pub returns-then-rest-transitions-clause-is : goal.returns-then-rest-transitions-clause-is

@@ -1,8 +1,8 @@
--- `sheet::read_rows` meets its contract: one case for each refusal, and one for the rows.
-use Rattle.std.proofs.Common.{length, sym, ◌∙◌}
+-- `sheet::reading::read_rows` meets its contract: one case for each refusal, and one for the rows.
+use Rattle.std.proofs.Common.{length, sym}
 use Rattle.std.proofs.lemmas.Result.{err_from_is_err_and}
 use Rattle.sheet.proofs.Answered.{fits, passed, malformed, no_room, read_rows}
-use Rattle.sheet.proofs.read_rows.Goals as goal
+use Rattle.sheet.proofs.reading.read_rows.Goals as goal
 
 pub returns-in_err-rows : goal.returns-in_err-rows
 returns-in_err-rows c =
