@@ -19,6 +19,7 @@ const STATES: usize = SHEET / STATE_LINE * STATE_WORDS;
 const TRANSITIONS: usize = SHEET / TRANSITION_LINE * TRANSITION_WORDS;
 
 // Puts the line of an answer, and of the tables' refusal, at the start of line.
+#[tactic(auto, using(crate::proofs::Judged::lined))]
 fn verdict_line(line: &mut [u8], r: SheetRows, tables: u64)
     requires { line_length ≤ length line.old }
     ensures { line.new ≡ verdict_line r tables ++ drop line_length line.old }
@@ -32,6 +33,7 @@ fn verdict_line(line: &mut [u8], r: SheetRows, tables: u64)
 }
 
 // Reads a sheet into the lent tables, judges the rows read, and puts the line at the start of line.
+#[tactic(auto, using(crate::proofs::Judged::machines_inside, crate::proofs::Judged::states_inside, crate::proofs::Judged::transitions_inside))]
 fn judge(
     sheet: &[u8],
     machines: &mut [u64],
@@ -53,6 +55,7 @@ fn judge(
 }
 
 // The line of a sheet of any length.
+#[tactic(auto, unfolding(crate::specs::Verdict::report_line))]
 fn report(bytes: &[u8], line: &mut [u8])
     requires { line_length ≤ length line.old }
     ensures { line.new ≡ report_line bytes.now ++ drop line_length line.old }
