@@ -4,8 +4,7 @@
 ghost use Rattle.std.specs.Prelude.{◌<◌};
 ghost use Rattle.columns_link.specs.Put.{Put};
 
-// Puts numbers at the start of text, each in so many columns, and answers the bytes; nothing where there is no room for all.
-// a number: it crosses to C
+// Puts numbers at the start of text, each in so many columns, and answers the bytes; 0 where there is no room for all: it crosses to C.
 #[tactic(auto, using(crate::proofs::Cases::inside, crate::proofs::Cases::outside, crate::proofs::Cases::no_room, crate::proofs::Cases::all_put))]
 fn put(text: &mut [u8], width: usize, numbers: &[u64]) -> usize
     requires { 0 < width }

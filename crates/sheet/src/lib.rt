@@ -15,7 +15,7 @@ pub mod line; // the lines of the three kinds
 mod reading; // a sheet to its tables
 mod writing; // the tables to their sheet
 
-// What the reader answers: the refusal or 0, and how many rows it read into each table.
+// What the reader answers: the refusal or 0, and how many rows it read into each table. Numbers: it crosses to C.
 #[repr(C)]
 #[derive(Clone, Copy)]
 pub struct SheetRows {
@@ -38,7 +38,7 @@ impl From<Rows> for SheetRows {
     }
 }
 
-// What the writer answers: the refusal or 0, and how many bytes it wrote.
+// What the writer answers: the refusal or 0, and how many bytes it wrote. Numbers: it crosses to C.
 #[repr(C)]
 #[derive(Clone, Copy)]
 pub struct SheetBytes {
@@ -62,8 +62,7 @@ pub fn read(
     }
 }
 
-// The answer of a refused sheet.
-// a number: it crosses to C
+// The answer of a refused sheet, by the number of the refusal: the answer crosses to C.
 pub fn unread(refusal: u64) -> SheetRows
     ensures { result ≡ no_rows refusal }
 {
