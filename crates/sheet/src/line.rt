@@ -3,7 +3,7 @@ use cells::WORD_COLUMNS;
 use lines::{KIND_COLUMNS, LineKind};
 use machine::constants::{MACHINE_WORDS, STATE_WORDS, TRANSITION_WORDS};
 
-// The row kinds: numbers, since a line has them as its first digit.
+// The row kinds: numbers, since a line begins with them.
 pub const MACHINE_KIND: u64 = 1;
 
 pub const STATE_KIND: u64 = 2;
