@@ -1,10 +1,10 @@
 -- A word in its columns, and the words of a row, one behind the other: what is written, and what is read. A text is a list of
 -- bytes.
-use Rattle.std.specs.Prelude.{ℕ, zero, suc, ◌^◌, Bool, cond, ◌&&◌, List, [], ◌∷◌, ◌++◌, ltb, take, drop}
+use Rattle.std.specs.Prelude.{ℕ, zero, suc, ◌^◌, Bool, cond, ◌&&◌, List, [], ◌∷◌, ◌++◌, Option, Some, None, ltb, take, drop}
+use Rattle.std.specs.Option.{unwrap_or}
 use Rattle.machine.specs.Same.{same}
 use Rattle.columns.specs.Digits.{read_back}
 use Rattle.columns.specs.Columns.{right, rights}
-use Rattle.cells.specs.declared.Cell.{Cell}
 
 -- ---- pieces of one size
 
@@ -35,10 +35,10 @@ cells row = rights word_columns row
 unfoldable pub is_cell : List ℕ → Bool
 is_cell bytes = ltb (read_back bytes) (2 ^ 64) && same bytes (right word_columns (read_back bytes))
 
--- a cell with its word, 0 where it is none
-unfoldable pub cell_of : List ℕ → Cell
-cell_of bytes = record { good = is_cell bytes; word = cond (is_cell bytes) (read_back bytes) 0 }
+-- the word of a cell
+unfoldable pub cell_of : List ℕ → Option ℕ
+cell_of bytes = cond (is_cell bytes) (Some (read_back bytes)) None
 
--- the word of a cell, in a row of one
+-- it, in a row of one; 0 where the bytes are no cell
 abbrev pub word_in : List ℕ → List ℕ
-word_in bytes = (cell_of bytes).word ∷ []
+word_in bytes = unwrap_or (cell_of bytes) 0 ∷ []

@@ -1,114 +1,61 @@
 // A word in its 21 columns, and the words of a row, one behind the other.
 #![tactic(auto)]
 
-ghost use Rattle.std.specs.Prelude.{◌≡◌, true, ◌*◌, ◌-◌, ◌≤◌, ◌<◌, ◌^◌, length};
+ghost use Rattle.std.specs.Prelude.{◌≡◌, ◌*◌, ◌≤◌, ◌<◌, ◌^◌, length};
 ghost use Rattle.cells.specs.Cells.{word_columns, leading, is_cell, cell_of};
-ghost use Rattle.cells.specs.Digits.{is_digit, column_of, last_of, no_cell};
+ghost use Rattle.cells.specs.Digits.{digit_of, column_of, last_of};
 
 // The columns of a word.
 pub const WORD_COLUMNS: usize = 21;
 
 // ---- a word
 
-// Whether bytes are a word's columns, and the word; 0 where they are not.
-#[derive(Clone, Copy)]
-pub struct Cell {
-    pub good: bool,
-    pub word: u64,
-}
-
-// The number with one column more, left of the last, or that no number has this byte there.
-#[derive(Clone, Copy)]
-enum Column {
-    On(u64),
-    Off,
-}
-
-fn no_cell() -> Cell
-    ensures { result ≡ no_cell }
-{
-    Cell {
-        good: false,
-        word: 0,
-    }
-}
-
-fn is_digit(b: u8) -> bool
-    ensures { result ≡ is_digit b }
-{
-    if b < b'0' {
-        return false;
-    }
-    b <= b'9'
-}
-
 // The value of a digit.
-fn digit(b: u8) -> u64
-    requires { is_digit b ≡ true }
-    ensures { (result ≡ b - 48) × (result < 10) }
+#[tactic(auto, unfolding(crate::specs::Digits::digit_of, crate::specs::Digits::is_digit))]
+fn digit(b: u8) -> Option<u64>
+    ensures { result ≡ digit_of b }
 {
-    (b - 48) as u64
+    match b {
+        b'0'..=b'9' => Some(u64::from(b - b'0')),
+        _ => None,
+    }
 }
 
-// A space stands before the first digit, and the first digit is not 0.
-fn read_on(n: u64, b: u8) -> Column
+// The number with one column more, left of the last; nothing where no number has this byte there. A space stands before
+// the first digit, and the first digit is not 0.
+#[tactic(auto, using(crate::proofs::Columns::no_value, crate::proofs::Columns::value, crate::proofs::Columns::space_column, crate::proofs::Columns::no_digit, crate::proofs::Columns::digit_column))]
+fn read_on(n: u64, b: u8) -> Option<u64>
     requires { n < 10 ^ 18 }
     ensures { result ≡ column_of n b }
 {
     if b == b' ' {
-        if n == 0 {
-            return Column::On(0);
-        }
-        return Column::Off;
+        return (n == 0).then_some(0);
     }
-    if is_digit(b) {
-        let m = n * 10 + digit(b);
-        if m == 0 {
-            return Column::Off;
-        }
-        return Column::On(m);
-    }
-    Column::Off
+    let m = n * 10 + digit(b)?;
+    (m != 0).then_some(m)
 }
 
 // The last column has a digit, with which the word may grow too large.
-fn last(n: u64, b: u8) -> Cell
+#[tactic(auto, using(crate::proofs::Columns::no_value, crate::proofs::Columns::last_other, crate::proofs::Columns::last_large, crate::proofs::Columns::last_digit))]
+fn last(n: u64, b: u8) -> Option<u64>
     ensures { result ≡ last_of n b }
 {
-    if is_digit(b) {
-        let d = digit(b);
-        if (18446744073709551615 - d) / 10 < n {
-            return no_cell();
-        }
-        return Cell {
-            good: true,
-            word: n * 10 + d,
-        };
-    }
-    no_cell()
+    let d = digit(b)?;
+    n.checked_mul(10)?.checked_add(d)
 }
 
-// The first column has a space: no u64 has 21 digits.
-pub fn cell_of(bytes: &[u8]) -> Cell
+// The word whose columns the bytes are, where they are a word's. The first column has a space: no u64 has 21 digits.
+#[tactic(auto, using(crate::proofs::Columns::first_digit, crate::proofs::Columns::first_space, crate::proofs::Columns::few_digits, crate::proofs::Columns::stopped, crate::proofs::Columns::ends))]
+pub fn cell_of(bytes: &[u8]) -> Option<u64>
     requires { length bytes.now ≡ word_columns }
     ensures { result ≡ cell_of bytes.now }
 {
     if bytes[0] != b' ' {
-        return no_cell();
+        return None;
     }
-    let mut n: u64 = 0;
-    let mut i: usize = 1;
-    while i < 20 {
-        let c = read_on(n, bytes[i]);
-        match c {
-            Column::Off => {
-                return no_cell();
-            }
-            Column::On(m) => {
-                n = m;
-            }
-        }
-        i += 1;
+    let mut n = 0;
+    for b in &bytes[1..20] {
+        n = read_on(n, *b)?;
     }
     last(n, bytes[20])
 }
@@ -116,20 +63,16 @@ pub fn cell_of(bytes: &[u8]) -> Cell
 // ---- the words of a row
 
 // How many words' columns stand at the front, one behind the other, of so many.
+#[tactic(auto, using(crate::specs::Laws::passed_more, crate::specs::Laws::passed_fails, crate::specs::Laws::passed_all, crate::proofs::Columns::tested))]
 pub fn good_cells(bytes: &[u8], words: usize) -> usize
     requires { word_columns * words ≤ length bytes.now }
     ensures { result ≡ leading is_cell word_columns words bytes.now }
 {
-    let mut i = 0;
-    while i < words {
+    for i in 0..words {
         let at = WORD_COLUMNS * i;
-        let end = at + WORD_COLUMNS;
-        let c = cell_of(&bytes[at..end]);
-        if c.good {
-            i += 1;
-        } else {
+        if cell_of(&bytes[at..at + WORD_COLUMNS]).is_none() {
             return i;
         }
     }
-    i
+    words
 }

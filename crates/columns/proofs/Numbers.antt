@@ -1,14 +1,15 @@
 -- Numbers in columns, one after the other.
 use Prim.Native.Nat.{ℕ, zero, suc, ◌+◌, ◌*◌, ◌≤◌, ◌<◌}
-use mathlib.Core.Path.{◌≡◌, sym, ap, ◌∙◌}
+use mathlib.Core.Path.{◌≡◌, refl, sym, ap, ◌∙◌}
 use mathlib.Core.List.{List, [], ◌∷◌, ◌++◌, append_assoc, append-nil}
 use native.Mathlib.Omega.{arith}
 use native.Mathlib.Numerals.{add-one}
-use native.Mathlib.Nat.{mul-suc, mul-zero, mul-le-mul_left}
+use native.Mathlib.Nat.{mul-suc, mul-le-mul_left}
 use lib.ListN.{length, take, drop, get_or}
-use lib.Seq.{take-length}
+use lib.Seq.{take-length, length-take-le}
 use Rattle.columns.specs.Columns.{right, cell_in, rights}
-use Rattle.columns.proofs.Line.{Upto, start, cell}
+use Rattle.columns.proofs.Fits.{length-rights}
+use Rattle.columns.proofs.Line.{Upto, cell}
 
 module _ (w : ℕ) where
   -- one more behind those before it
@@ -21,29 +22,33 @@ module _ (w : ℕ) where
       ∙ sym (append_assoc (right w n) (rights w (take i ns)) (right w (get_or ns i 0)))
 
   module _ (ns o : List ℕ) where
-    -- the first i numbers stand
-    abbrev pub Stand : ℕ → ℕ → List ℕ → Type 0
-    Stand i at out = (at ≡ w * i) × Upto o (rights w (take i ns)) at out
+    -- the text where the first i numbers stand, up to `at`
+    abbrev pub stand : ℕ → ℕ → List ℕ
+    stand i at = rights w (take i ns) ++ drop at o
 
     -- none yet
-    pub no_number : Stand 0 0 o
+    pub no_number : o ≡ stand 0 0
     unfolding rights
-    no_number = (sym (mul-zero w), start o)
+    no_number = refl
 
     -- there is room for one more
-    pub room : (out : List ℕ) (at i : ℕ) → i < length ns → w * length ns ≤ length out → Stand i at out → at + w ≤ length out
-    room out at i h r s =
-        omega (arith, s.0, mul-suc w i, mul-le-mul_left {m = suc i} {n = length ns} w h)
+    pub room : (out : List ℕ) (at i : ℕ) → i < length ns → w * length ns ≤ length out → at ≡ w * i → at + w ≤ length out
+    room out at i h r p =
+        omega (arith, p, mul-suc w i, mul-le-mul_left {m = suc i} {n = length ns} w h)
 
     -- one more
-    pub one_number : (out out' : List ℕ) (at i : ℕ) → i < length ns → Stand i at out
-        → out' ≡ cell_in at w (get_or ns i 0) out → Stand (i + 1) (at + w) out'
-    one_number out out' at i h s y = (
-      rw (add-one, mul-suc, s.0),
-      rw (add-one, rights-more ns i h) (cell w (get_or ns i 0) s.1 y),
-    )
+    pub next_place : (at i : ℕ) → at ≡ w * i → at + w ≡ w * (i + 1)
+    next_place at i p = rw (add-one, mul-suc, p)
+
+    pub one_number : (out out' : List ℕ) (at i : ℕ) → i < length ns → at ≡ w * i → out ≡ stand i at
+        → out' ≡ cell_in at w (get_or ns i 0) out → out' ≡ stand (i + 1) (at + w)
+    one_number out out' at i h p s y =
+        let k : length (rights w (take i ns)) ≡ at =
+        length-rights w (take i ns) ∙ rw (length-take-le i ns (omega arith)) (sym p) in
+        let u : Upto o (rights w (take i ns)) at out = record { size = k; is = s } in
+        rw (add-one, rights-more ns i h) (cell w (get_or ns i 0) u y).is
 
     -- all
-    pub all_numbers : (out : List ℕ) (at i : ℕ) → i ≡ length ns → Stand i at out
+    pub all_numbers : (out : List ℕ) (at i : ℕ) → i ≡ length ns → at ≡ w * i → out ≡ stand i at
         → out ≡ rights w ns ++ drop (w * length ns) o
-    all_numbers out at i e s = rw (s.0, e, take-length ns) at s.1.is
+    all_numbers out at i e p s = rw (p, e, take-length ns) at s

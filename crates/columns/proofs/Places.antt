@@ -4,8 +4,8 @@ use mathlib.Core.Path.{◌≡◌, sym, ap, ◌∙◌}
 use mathlib.Core.List.{List, [], ◌∷◌, ◌++◌, append_assoc}
 use native.Mathlib.Omega.{arith}
 use native.Mathlib.Nat.{sub-zero}
-use lib.ListN.{length, take, drop, set, get_or, replicate, length-set, length-append, length-replicate, replicate-append-replicate, take-append-drop}
-use lib.Seq.{set_split, length-take-le, drop_at, take_at, drop-cons, set_at, take-set-le}
+use lib.ListN.{length, take, drop, set, replicate, length-set, length-append, length-drop, length-replicate, replicate-append-replicate, take-append-drop}
+use lib.Seq.{set_split, length-take-le, drop_at, take_at, take-set-le, drop-drop}
 use Rattle.columns.specs.Digits.{digits}
 use Rattle.columns.specs.Columns.{last_digits, cell_in}
 use Rattle.columns.proofs.Fits.{right_is, length_last}
@@ -14,28 +14,15 @@ use Rattle.columns.specs.Parts.{spaces_in, digits_in}
 
 -- ---- spaces
 
-module _ (l : List ℕ) (at : ℕ) where
-  -- none yet
-  pub no_space : spaces_in at at l ≡ l
-  unfolding spaces_in
-  no_space =
-      let z : at - at ≡ 0 = omega arith in
-      rw z (take-append-drop at l)
-
-  -- one more
-  pub one_space : (i : ℕ) → at ≤ i → i < length l → set (spaces_in at i l) i 32 ≡ spaces_in at (i + 1) l
-  unfolding spaces_in
-  one_space i h b =
-      let S : List ℕ = replicate (i - at) 32 in
-      let P : List ℕ = take at l ++ S in
-      let k : length P ≡ i =
-      length-append (take at l) S ∙ rw (length-take-le at l (omega arith), length-replicate) (omega arith) in
-      let m : i + 1 ≡ suc i = omega arith in
-      let e : suc i - at ≡ i - at + 1 = omega arith in
-      let q : S ++ (32 ∷ []) ≡ replicate (i - at + 1) 32 = replicate-append-replicate (i - at) 1 32 in
-      rw (drop-cons l i 0 b, ← (append_assoc (take at l) S (get_or l i 0 ∷ drop (suc i) l)))
-      (set_at P (get_or l i 0) (drop (suc i) l) 32 i k
-      ∙ rw (m, e, ← q) (simp append_assoc))
+-- spaces in the part from `at` up to `end`, and what stands beside it
+pub spaced : (l ys : List ℕ) (at end : ℕ) → at ≤ end → end ≤ length l → ys ≡ replicate (length (take (end - at) (drop at l))) 32
+    → take at l ++ (ys ++ drop (end - at) (drop at l)) ≡ spaces_in at end l
+unfolding spaces_in
+spaced l ys at end h b e =
+    let k : length (take (end - at) (drop at l)) ≡ end - at =
+    length-take-le (end - at) (drop at l) (omega (arith, length-drop at l)) in
+    let m : at + (end - at) ≡ end = omega arith in
+    rw (e, k, drop-drop (end - at) at l, m)
 
 -- ---- digits
 
@@ -109,7 +96,7 @@ module _ (l : List ℕ) (at n end : ℕ) (inside : end ≤ length l) where
 -- ---- digits over spaces
 
 module _ (l : List ℕ) (at w n : ℕ) where
-  pub over_spaces : at + w ≤ length l → digits_in at (at + w) n (spaces_in at (at + w) l) ≡ cell_in at w n l
+  over_spaces : at + w ≤ length l → digits_in at (at + w) n (spaces_in at (at + w) l) ≡ cell_in at w n l
   unfolding digits_in spaces_in cell_in
   over_spaces h =
       let z : at + w - at ≡ w = omega arith in
@@ -130,3 +117,8 @@ module _ (l : List ℕ) (at w n : ℕ) where
       rw (← (append_assoc (take at l) (replicate w 32) (drop (at + w) l)))
       (drop_at (take at l ++ replicate w 32) (drop (at + w) l) (at + w) (length-append (take at l) (replicate w 32) ∙ rw (a, length-replicate) (omega arith))) in
       rw (z, t, d, right_is w n) (simp append_assoc)
+
+  -- all columns become spaces, and the digits go over them
+  pub celled : (spaces out : List ℕ) → spaces ≡ spaces_in at (at + w) l → out ≡ digits_in at (at + w) n spaces → at + w ≤ length l
+      → out ≡ cell_in at w n l
+  celled spaces out s d h = d ∙ ap (digits_in at (at + w) n) s ∙ over_spaces h

@@ -6,18 +6,16 @@ ghost use Rattle.columns.specs.Columns.{cell_in, rights};
 ghost use Rattle.columns.specs.Parts.{spaces_in, digits_in};
 
 // Puts spaces from `at` up to `end`.
+#[tactic(auto, using(crate::proofs::Places::spaced))]
 fn put_spaces(line: &mut [u8], at: usize, end: usize)
     requires { (at ≤ end) × (end ≤ length line.old) }
     ensures { line.new ≡ spaces_in at end line.old }
 {
-    let mut i = at;
-    while i < end {
-        line[i] = b' ';
-        i += 1;
-    }
+    line[at..end].fill(b' ');
 }
 
 // Puts the digits of a number below 100 before `end`; where there are fewer than two columns, of any.
+#[tactic(auto, using(crate::proofs::Places::no_digit, crate::proofs::Places::first_digit, crate::proofs::Places::one_left, crate::proofs::Places::two_left))]
 fn put_rest(line: &mut [u8], at: usize, end: usize, n: u64)
     requires { (at ≤ end) × (end ≤ length line.old) × (at + 2 ≤ end → n < 100) }
     ensures { line.new ≡ digits_in at end n line.old }
@@ -36,10 +34,12 @@ fn put_rest(line: &mut [u8], at: usize, end: usize, n: u64)
 }
 
 // Puts the digits of n before `end`, two at a time; where there are more than columns, its last ones.
+#[tactic(auto, using(crate::proofs::Places::two_more))]
 fn put_digits(line: &mut [u8], at: usize, end: usize, n: u64)
     requires { (at ≤ end) × (end ≤ length line.old) }
     ensures { line.new ≡ digits_in at end n line.old }
 {
+    // by index: it ends with the digits or with the columns, two places a turn
     let mut i = end;
     let mut rest = n;
     while 100 <= rest && 2 <= i - at {
@@ -54,6 +54,7 @@ fn put_digits(line: &mut [u8], at: usize, end: usize, n: u64)
 
 // Puts n in the columns from `at` on: spaces and then its digits, where it fits; a number of more digits than columns gets
 // its last ones.
+#[tactic(auto, using(crate::proofs::Places::celled))]
 pub fn put_number(line: &mut [u8], at: usize, width: usize, n: u64)
     requires { at + width ≤ length line.old }
     ensures { line.new ≡ cell_in at width n line.old }
@@ -64,16 +65,15 @@ pub fn put_number(line: &mut [u8], at: usize, width: usize, n: u64)
 }
 
 // Puts numbers at the start of line, one behind the other, each in so many columns.
+#[tactic(auto, using(crate::proofs::Numbers::no_number, crate::proofs::Numbers::next_place, crate::proofs::Numbers::one_number, crate::proofs::Numbers::all_numbers, crate::proofs::Numbers::room))]
 pub fn put_numbers(line: &mut [u8], width: usize, numbers: &[u64])
     requires { width * length numbers.now ≤ length line.old }
     ensures { line.new
         ≡ rights width numbers.now ++ drop (width * length numbers.now) line.old }
 {
     let mut at = 0;
-    let mut i = 0;
-    while i < numbers.len() {
-        put_number(line, at, width, numbers[i]);
+    for n in numbers {
+        put_number(line, at, width, *n);
         at += width;
-        i += 1;
     }
 }

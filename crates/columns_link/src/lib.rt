@@ -4,7 +4,8 @@
 ghost use Rattle.std.specs.Prelude.{◌<◌};
 ghost use Rattle.columns_link.specs.Put.{Put};
 
-// Puts numbers at the start of text, each in so many columns, and answers the bytes; nothing where there is no room for all.
+// Puts numbers at the start of text, each in so many columns, and answers the bytes; 0 where there is no room for all: it crosses to C.
+#[tactic(auto, using(crate::proofs::Cases::inside, crate::proofs::Cases::outside, crate::proofs::Cases::no_room, crate::proofs::Cases::all_put))]
 fn put(text: &mut [u8], width: usize, numbers: &[u64]) -> usize
     requires { 0 < width }
     ensures { Put width numbers.now text.old result text.new }
@@ -26,7 +27,8 @@ pub extern "C" fn columns_put(text: &mut [u8], width: usize, numbers: &[u64]) ->
     put(text, width, numbers)
 }
 
-// The same with a width that the compiler knows, as in every call of the library and its programs.
+// The same with a width that the compiler knows, as in every call of the library and its programs; an export to C has no
+// const parameter, so each width has one.
 #[unsafe(no_mangle)]
 pub extern "C" fn columns_put_4(text: &mut [u8], numbers: &[u64]) -> usize
     ensures { Put 4 numbers.now text.old result text.new }

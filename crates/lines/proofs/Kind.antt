@@ -1,16 +1,18 @@
 -- The columns of a kind, and the test of a line part by part.
-use Prim.Native.Nat.{ℕ, ◌+◌, ◌-◌, ◌*◌, ◌/◌, ◌%◌, ◌≤◌, ◌<◌}
-use mathlib.Core.Path.{◌≡◌, refl, sym, ◌∙◌}
-use mathlib.Core.Bool.{Bool, ◌&&◌, and-true}
+use Prim.Native.Nat.{ℕ, ◌+◌, ◌-◌, ◌*◌, ◌/◌, ◌%◌, ◌<◌}
+use mathlib.Core.Path.{◌≡◌, refl, sym, ap, ◌∙◌}
+use mathlib.Core.Bool.{Bool, ◌&&◌}
 use mathlib.Core.List.{List, [], ◌∷◌}
 use native.Mathlib.Omega.{arith}
 use lib.Dec.{eqb}
 use lib.ListN.{length, take, drop, get_or, length-drop}
+use lib.Pointwise.{pointwise}
 use lib.Seq.{take_all}
 use Rattle.columns.specs.Columns.{right}
 use Rattle.columns.proofs.ByColumn.{rests, right_ends}
 use Rattle.machine.specs.Same.{same}
 use Rattle.cells.specs.Cells.{word_columns, leading, is_cell}
+use Rattle.cells.proofs.Columns.{part}
 use Rattle.lines.specs.Lines.{kind_columns, line_bytes, is_line}
 
 digit_columns : (kind : ℕ) → kind < 10 → right kind_columns kind ≡ 32 ∷ 32 ∷ 32 ∷ (48 + kind) ∷ []
@@ -20,19 +22,18 @@ digit_columns kind h =
     let d : kind % 10 ≡ kind = omega arith in
     right_ends 3 kind ∙ rw (z, d)
 
-four : (l : List ℕ) → kind_columns ≤ length l → take kind_columns l ≡ get_or l 0 0 ∷ get_or l 1 0 ∷ get_or l 2 0 ∷ get_or l 3 0 ∷ []
-four [] h = absurd (omega (arith, h))
-four (a ∷ []) h = absurd (omega (arith, h))
-four (a ∷ b ∷ []) h = absurd (omega (arith, h))
-four (a ∷ b ∷ c ∷ []) h = absurd (omega (arith, h))
-four (a ∷ b ∷ c ∷ d ∷ l) h = refl
-
--- the test of the four columns, byte by byte
-pub kind_test : (line : List ℕ) (kind : ℕ) → kind_columns ≤ length line → kind < 10
-    → eqb (get_or line 0 0) 32 && (eqb (get_or line 1 0) 32 && (eqb (get_or line 2 0) 32 && eqb (get_or line 3 0) (48 + kind)))
-    ≡ same (take kind_columns line) (right kind_columns kind)
+-- how `==` compares two lists
+same_is : (xs ys : List ℕ) → pointwise eqb xs ys ≡ same xs ys
 unfolding same
-kind_test line kind h k = rw (four line h, digit_columns kind k, and-true)
+same_is [] [] = refl
+same_is [] (y ∷ ys) = refl
+same_is (x ∷ xs) [] = refl
+same_is (x ∷ xs) (y ∷ ys) = rw (same_is xs ys)
+
+-- the test of the four columns
+pub kind_test : (xs : List ℕ) (kind : ℕ) → kind < 10
+    → pointwise eqb xs (32 ∷ 32 ∷ 32 ∷ (48 + kind) ∷ []) ≡ same xs (right kind_columns kind)
+kind_test xs kind k = rw (digit_columns kind k) (same_is xs _)
 
 -- a part that reaches to the end
 pub to_end : (bytes : List ℕ) (at : ℕ) → take (length bytes - at) (drop at bytes) ≡ drop at bytes
@@ -47,11 +48,9 @@ line_test line kind words k n l e g =
     let end : length line - 1 ≡ kind_columns + word_columns * words = omega arith in
     rw (e, g, to_end line kind_columns, end)
 
--- what was said of the bytes from `at` up to `end` is said of line i
-pub line_at : (text : List ℕ) (kind words size i at end : ℕ) (r b : Bool) → end ≡ at + size → at ≡ size * i
-    → r ≡ is_line kind words (take (end - at) (drop at text))
+-- what was said of the bytes from `size * i` on is said of line i
+pub line_at : (text : List ℕ) (kind words size i : ℕ) (r b : Bool)
+    → r ≡ is_line kind words (take (size * i + size - size * i) (drop (size * i) text))
     → r ≡ b
     → is_line kind words (take size (drop (size * i) text)) ≡ b
-line_at text kind words size i at end r b e is h g =
-    let k : end - at ≡ size = omega arith in
-    sym (h ∙ rw (k, is)) ∙ g
+line_at text kind words size i r b h g = sym (h ∙ ap (is_line kind words) (part text (size * i) size)) ∙ g

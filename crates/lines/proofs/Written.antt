@@ -1,17 +1,19 @@
 -- What a store does to a sheet: a line is its kind, its cells and a line feed, and a table grows line by line.
-use Prim.Native.Nat.{ℕ, ◌+◌, ◌-◌, ◌*◌, ◌≤◌}
+use Prim.Native.Nat.{ℕ, suc, ◌+◌, ◌-◌, ◌*◌, ◌≤◌}
 use mathlib.Core.Path.{◌≡◌, sym, ◌∙◌}
 use mathlib.Core.List.{List, ◌++◌, append_assoc}
 use native.Mathlib.Omega.{arith}
+use native.Mathlib.Nat.{mul-suc}
 use native.Mathlib.Numerals.{add-one}
 use lib.ListN.{length, take, drop, set, length-drop}
 use lib.Seq.{length-take-le}
-use Rattle.machine.specs.Part.{through, from, over_part}
+use Rattle.machine.specs.Part.{through, from, over_part, written}
 use Rattle.columns.specs.Columns.{cell_in}
 use Rattle.columns.proofs.Fits.{length-rights}
-use Rattle.columns.proofs.Line.{Upto, start, more, cell, feed}
+use Rattle.columns.proofs.Line.{start, more, cell, feed}
 use Rattle.cells.specs.Cells.{each, word_columns, cells}
-use Rattle.cells.specs.Laws.{each_more}
+use Rattle.cells.specs.Laws.{each_more, length-each}
+use Rattle.cells.proofs.Columns.{part}
 use Rattle.lines.specs.Lines.{kind_columns, line_bytes, line_of}
 use Rattle.lines.specs.RoundTrip.Lines.{kept}
 
@@ -33,30 +35,19 @@ lined kind row o {out} ys h l e y =
 -- ---- the lines of a table
 
 module _ (kind words : ℕ) (table o : List ℕ) where
-  -- the lines of the first i rows stand
-  abbrev pub Lines : ℕ → ℕ → List ℕ → Type 0
-  Lines i at out = Upto o (each (line_of kind) words i table) at out
-
-  -- no line yet
-  pub no_line : Lines 0 0 o
-  unfolding each
-  no_line = start o
-
   -- a line more
-  pub one_line : (out ys : List ℕ) (row size at i : ℕ) → row ≡ words * i → row + words ≤ length table
-      → size ≡ line_bytes words
-      → Lines i at out
-      → (let r = take (row + words - row) (drop row table) in ys ≡ line_of kind r ++ drop (line_bytes (length r)) (from out at))
-      → Lines (i + 1) (at + size) (through out at ys)
-  one_line out ys row size at i e h s u y =
-      let r : List ℕ = take words (drop row table) in
-      let w : row + words - row ≡ words = omega arith in
-      let n : length r ≡ words = length-take-le words (drop row table) (omega (arith, length-drop row table)) in
-      let q : ys ≡ line_of kind r ++ drop size (from out at) = rw (w, n, ← s) at y in
-      rw (add-one, each_more (line_of kind) words i table, ← e)
-      (more (line_of kind r) size ((kept kind words).long r n ∙ sym s) u (over_part out (line_of kind r) ys at size q))
-
-  -- all lines
-  pub all_lines : (out : List ℕ) (size at i n : ℕ) → i ≡ n → at ≡ size * i → Lines i at out
-      → out ≡ each (line_of kind) words n table ++ drop (size * n) o
-  all_lines out size at i n e k u = rw (k, e) at u.is
+  pub one_line : (out ys : List ℕ) (size i : ℕ) → size ≡ line_bytes words → words * i + words ≤ length table
+      → out ≡ each (line_of kind) words i table ++ drop (size * i) o
+      → (let r = take (words * i + words - words * i) (drop (words * i) table) in ys ≡ line_of kind r ++ drop (line_bytes (length r)) (from out (size * i)))
+      → through out (size * i) ys ≡ each (line_of kind) words (i + 1) table ++ drop (size * (i + 1)) o
+  one_line out ys size i s h u y =
+      let r : List ℕ = take words (drop (words * i) table) in
+      let n : length r ≡ words = length-take-le words (drop (words * i) table) (omega (arith, length-drop (words * i) table)) in
+      let q : ys ≡ line_of kind r ++ drop size (from out (size * i)) = rw (part table (words * i) words, n, ← s) at y in
+      let l : length (each (line_of kind) words i table) ≡ size * i =
+      length-each (line_of kind) words size (λ xs k. (kept kind words).long xs k ∙ sym s) i table (omega arith) in
+      rw (add-one, each_more (line_of kind) words i table, mul-next)
+      (written (each (line_of kind) words i table) o out (line_of kind r) ys (size * i) size (sym l) (s ∙ sym ((kept kind words).long r n)) u q)
+    where
+      mul-next : size * suc i ≡ size * i + size
+      mul-next = omega (arith, mul-suc size i)

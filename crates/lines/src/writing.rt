@@ -3,10 +3,11 @@ ghost use Rattle.std.specs.Prelude.{◌≡◌, ◌++◌, ◌*◌, ◌≤◌, len
 ghost use Rattle.cells.specs.Cells.{each};
 ghost use Rattle.lines.specs.Lines.{line_bytes, line_of};
 
-use super::KIND_COLUMNS;
+use super::{KIND_COLUMNS, LineKind};
 use cells::WORD_COLUMNS;
 
 // Puts a row's line at the start of line.
+#[tactic(auto, using(crate::proofs::Written::lined))]
 fn put_line(kind: u64, row: &[u64], line: &mut [u8])
     requires { line_bytes (length row.now) ≤ length line.old }
     ensures { line.new
@@ -18,20 +19,19 @@ fn put_line(kind: u64, row: &[u64], line: &mut [u8])
     line[end] = b'\n';
 }
 
-// Puts the lines of the first n rows of a table at the start of sheet; a row has so many words, and a line so many bytes.
-pub fn put_lines(kind: u64, n: usize, words: usize, size: usize, table: &[u64], sheet: &mut [u8])
-    requires { (size ≡ line_bytes words) × (words * n ≤ length table.now) × (size * n ≤ length sheet.old) }
+// Puts the lines of the first n rows of a table at the start of sheet.
+#[tactic(auto, using(crate::proofs::Places::place), unfolding(cells::specs::Cells::each))]
+pub fn put_lines(kind: LineKind, n: usize, table: &[u64], sheet: &mut [u8])
+    requires { (kind.words * n ≤ length table.now) × (kind.size * n ≤ length sheet.old) }
     ensures { sheet.new
-        ≡ each (line_of kind) words n table.now ++ drop (size * n) sheet.old }
+        ≡ each (line_of kind.number) kind.words n table.now ++ drop (kind.size * n) sheet.old }
 {
-    let mut row = 0;
-    let mut at = 0;
-    let mut i = 0;
-    while i < n {
-        let end = row + words;
-        put_line(kind, &table[row..end], &mut sheet[at..]);
-        row = end;
-        at += size;
-        i += 1;
+    for i in 0..n {
+        let row = kind.words * i;
+        put_line(
+            kind.number,
+            &table[row..row + kind.words],
+            &mut sheet[kind.size * i..],
+        );
     }
 }

@@ -182,7 +182,12 @@ pub extern "C" fn maybenot_sheet_write(
     ensures { Writes machines.now states.now transitions.now sheet.old
         result sheet.new }
 {
-    sheet::write(machines, states, transitions, sheet)
+    let tables = machine::tables::Tables {
+        machines,
+        states,
+        transitions,
+    };
+    sheet::write(&tables, sheet)
 }
 
 // Puts the rows of a batch into out, in the order in which they fall due.

@@ -1,4 +1,3 @@
-pub mod Room
 pub mod Formed
 pub mod Written
 pub mod Answered

@@ -2,3 +2,4 @@
 pub mod Sheet
 pub mod Writer
 pub mod Reader
+pub mod Steps

@@ -6,7 +6,7 @@ use Rattle.lines.specs.Lines.{lines, table_of, behind}
 use Rattle.sheet.specs.Sheet.{machine_kind, state_kind, transition_kind}
 use Rattle.sheet.specs.Writer.{over}
 use Rattle.sheet.specs.declared.SheetRows.{SheetRows}
-use Rattle.sheet.specs.declared.reading.Form.{Form}
+use Rattle.sheet.specs.declared.reading.Rows.{Rows}
 
 -- the lines of each kind, and what stands behind them
 unfoldable pub machine_lines : List ℕ → ℕ
@@ -28,6 +28,12 @@ unfoldable pub behind_transitions : List ℕ → List ℕ
 behind_transitions sheet = behind transition_words (transition_lines sheet) (behind_states sheet)
 
 -- the three counts, and whether the lines are all of the sheet
+pub record Form : Type 0 where
+  pub machines : ℕ
+  pub states : ℕ
+  pub transitions : ℕ
+  pub whole : Bool
+
 unfoldable pub form_of : List ℕ → Form
 form_of sheet = record {
   machines = machine_lines sheet;
@@ -36,8 +42,12 @@ form_of sheet = record {
   whole = eqb (length (behind_transitions sheet)) 0;
 }
 
+-- the counts alone
+abbrev pub rows_in : Form → Rows
+rows_in form = record { machines = form.machines; states = form.states; transitions = form.transitions }
+
 -- tables of so many words have room for the rows
-unfoldable pub room_for : Form → ℕ → ℕ → ℕ → Bool
+unfoldable pub room_for : Rows → ℕ → ℕ → ℕ → Bool
 room_for rows machines states transitions =
     leb (machine_words * rows.machines) machines
     && (leb (state_words * rows.states) states && leb (transition_words * rows.transitions) transitions)
@@ -46,7 +56,7 @@ room_for rows machines states transitions =
 unfoldable pub read_refusal : List ℕ → List ℕ → List ℕ → List ℕ → ℕ
 read_refusal sheet machines states transitions =
     let rows = form_of sheet in
-    cond rows.whole (cond (room_for rows (length machines) (length states) (length transitions)) 0 23) 22
+    cond rows.whole (cond (room_for (rows_in rows) (length machines) (length states) (length transitions)) 0 23) 22
 
 -- the answer of a refused sheet
 abbrev pub no_rows : ℕ → SheetRows

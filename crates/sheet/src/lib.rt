@@ -2,20 +2,20 @@
 // writer.
 #![tactic(auto)]
 
-ghost use Rattle.std.specs.Prelude.{◌≡◌, leb};
-ghost use Rattle.sheet.specs.Sheet.{bytes_of};
-ghost use Rattle.sheet.specs.Reader.{no_rows, room_for, Reads};
-ghost use Rattle.sheet.specs.Writer.{whole_rows, Writes};
+ghost use Rattle.std.specs.Prelude.{◌≡◌};
+ghost use Rattle.machine.specs.Tables.{lent_tables};
+ghost use Rattle.sheet.specs.Reader.{no_rows, Reads};
+ghost use Rattle.sheet.specs.Writer.{Writes};
+ghost use Rattle.sheet.specs.Steps.{counted};
 
-use line::{MACHINE_LINE, STATE_LINE, TRANSITION_LINE};
-use machine::constants::{MACHINE_WORDS, STATE_WORDS, TRANSITION_WORDS};
-use reading::Form;
+use machine::tables::Tables;
+use reading::Rows;
 
 pub mod line; // the lines of the three kinds
 mod reading; // a sheet to its tables
 mod writing; // the tables to their sheet
 
-// What the reader answers: the refusal or 0, and how many rows it read into each table.
+// What the reader answers: the refusal or 0, and how many rows it read into each table. Numbers: it crosses to C.
 #[repr(C)]
 #[derive(Clone, Copy)]
 pub struct SheetRows {
@@ -25,25 +25,25 @@ pub struct SheetRows {
     pub transitions: u64,
 }
 
-// What the writer answers: the refusal or 0, and how many bytes it wrote.
+impl From<Rows> for SheetRows {
+    ghost from_gives = { λ rows r. r ≡ counted rows };
+
+    fn from(rows: Rows) -> SheetRows {
+        SheetRows {
+            refusal: 0,
+            machines: rows.machines as u64,
+            states: rows.states as u64,
+            transitions: rows.transitions as u64,
+        }
+    }
+}
+
+// What the writer answers: the refusal or 0, and how many bytes it wrote. Numbers: it crosses to C.
 #[repr(C)]
 #[derive(Clone, Copy)]
 pub struct SheetBytes {
     pub refusal: u64,
     pub bytes: u64,
-}
-
-// Whether so many rows fit into the three tables.
-fn has_room(rows: Form, machines: usize, states: usize, transitions: usize) -> bool
-    ensures { result ≡ room_for rows machines states transitions }
-{
-    if rows.machines <= machines / MACHINE_WORDS {
-        if rows.states <= states / STATE_WORDS {
-            return rows.transitions <= transitions / TRANSITION_WORDS;
-        }
-        return false;
-    }
-    false
 }
 
 // Reads a sheet into the lent tables.
@@ -56,23 +56,13 @@ pub fn read(
     ensures { Reads sheet.now machines.old states.old transitions.old
         result machines.new states.new transitions.new }
 {
-    let rows = reading::form_of(sheet);
-    if rows.whole {
-        if has_room(rows, machines.len(), states.len(), transitions.len()) {
-            reading::put_tables(sheet, rows, machines, states, transitions);
-            return SheetRows {
-                refusal: 0,
-                machines: rows.machines as u64,
-                states: rows.states as u64,
-                transitions: rows.transitions as u64,
-            };
-        }
-        return unread(23);
+    match reading::read_rows(sheet, machines, states, transitions) {
+        Ok(rows) => rows.into(),
+        Err(refusal) => unread(refusal.into()),
     }
-    unread(22)
 }
 
-// The answer of a refused sheet.
+// The answer of a refused sheet, by the number of the refusal: the answer crosses to C.
 pub fn unread(refusal: u64) -> SheetRows
     ensures { result ≡ no_rows refusal }
 {
@@ -84,57 +74,19 @@ pub fn unread(refusal: u64) -> SheetRows
     }
 }
 
-// Whether each table is whole rows.
-fn whole_rows(machines: usize, states: usize, transitions: usize) -> bool
-    ensures { result ≡ whole_rows machines states transitions }
-{
-    if machines % MACHINE_WORDS == 0 {
-        if states % STATE_WORDS == 0 {
-            return transitions % TRANSITION_WORDS == 0;
-        }
-        return false;
-    }
-    false
-}
-
-// Whether the lines of so many rows fit into so many bytes. What is left of the bytes keeps a sum from wrapping.
-fn lines_fit(machines: usize, states: usize, transitions: usize, bytes: usize) -> bool
-    ensures { result ≡ leb (bytes_of machines states transitions) bytes }
-{
-    if bytes / MACHINE_LINE < machines {
-        return false;
-    }
-    let left = bytes - MACHINE_LINE * machines;
-    if left / STATE_LINE < states {
-        return false;
-    }
-    let rest = left - STATE_LINE * states;
-    transitions <= rest / TRANSITION_LINE
-}
-
 // Writes the sheet of the tables.
-pub fn write(machines: &[u64], states: &[u64], transitions: &[u64], sheet: &mut [u8]) -> SheetBytes
-    ensures { Writes machines.now states.now transitions.now sheet.old
-        result sheet.new }
+pub fn write(tables: &Tables, sheet: &mut [u8]) -> SheetBytes
+    ensures { let T = lent_tables tables.now in
+        Writes T.machines T.states T.transitions sheet.old result sheet.new }
 {
-    if whole_rows(machines.len(), states.len(), transitions.len()) {
-        let m = machines.len() / MACHINE_WORDS;
-        let s = states.len() / STATE_WORDS;
-        let t = transitions.len() / TRANSITION_WORDS;
-        if lines_fit(m, s, t, sheet.len()) {
-            let bytes = writing::put_sheet(machines, states, transitions, sheet);
-            return SheetBytes {
-                refusal: 0,
-                bytes: bytes as u64,
-            };
-        }
-        return SheetBytes {
-            refusal: 23,
+    match writing::write_sheet(tables, sheet) {
+        Ok(bytes) => SheetBytes {
+            refusal: 0,
+            bytes: bytes as u64,
+        },
+        Err(refusal) => SheetBytes {
+            refusal: refusal.into(),
             bytes: 0,
-        };
-    }
-    SheetBytes {
-        refusal: 3,
-        bytes: 0,
+        },
     }
 }

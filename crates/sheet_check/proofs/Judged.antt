@@ -11,7 +11,7 @@ use Rattle.machine.specs.Constants.{machine_words, state_words, transition_words
 use Rattle.tables.specs.Machine.{tables_refusal}
 use Rattle.columns.specs.Columns.{cell_in}
 use Rattle.columns.proofs.Line.{start, cell, feed}
-use Rattle.sheet.specs.Reader.{read_refusal, Read, sheet_read, Reads}
+use Rattle.sheet.specs.Reader.{read_refusal, Read, sheet_read}
 use Rattle.sheet.specs.Writer.{over}
 use Rattle.sheet.proofs.RoundTrip.Calls.{reads}
 use Rattle.sheet.proofs.RoundTrip.Form.{machines_of, states_of, transitions_of, length-machines, length-states, length-transitions}
@@ -57,17 +57,24 @@ module _ (sheet m s t : List ℕ) where
           )
       by-refusal false e = rw e (omega arith, omega arith, omega arith)
 
-  pub read_inside : (r : SheetRows) (x y z : List ℕ)
-      → Reads sheet m s t r x y z
-      → Inside r x y z
-  read_inside r x y z e = rw (e.0, e.1, e.2, e.3) inside
+  abbrev R : Read
+  R = sheet_read sheet m s t
+
+  pub machines_inside : (r : SheetRows) (x : List ℕ) → r ≡ R.answer → x ≡ R.machines → machine_words * r.machines ≤ length x
+  machines_inside r x e f = rw (e, f) inside.0
+
+  pub states_inside : (r : SheetRows) (x : List ℕ) → r ≡ R.answer → x ≡ R.states → state_words * r.states ≤ length x
+  states_inside r x e f = rw (e, f) inside.1
+
+  pub transitions_inside : (r : SheetRows) (x : List ℕ) → r ≡ R.answer → x ≡ R.transitions → transition_words * r.transitions ≤ length x
+  transitions_inside r x e f = rw (e, f) inside.2
 
   -- the line of what was read and judged
   pub judged : (r : SheetRows) (x y z o line : List ℕ) (refusal : ℕ)
-      → Reads sheet m s t r x y z
+      → r ≡ R.answer → x ≡ R.machines → y ≡ R.states → z ≡ R.transitions
       → refusal
       ≡ tables_refusal (take (machine_words * r.machines) x) (take (state_words * r.states) y) (take (transition_words * r.transitions) z)
       → line ≡ verdict_line r refusal ++ drop line_length o
       → line ≡ judged_line sheet m s t ++ drop line_length o
   unfolding judged_line
-  judged r x y z o line refusal e f g = g ∙ rw (f, e.0, e.1, e.2, e.3)
+  judged r x y z o line refusal er ex ey ez f g = g ∙ rw (f, er, ex, ey, ez)

@@ -5,6 +5,7 @@ ghost use Rattle.std.specs.Prelude.{◌≡◌, ◌++◌, ◌≤◌, length, drop
 ghost use Rattle.sheet_check.specs.Verdict.{verdict_line, judged_line, report_line, line_length};
 
 use machine::constants::{MACHINE_WORDS, STATE_WORDS, TRANSITION_WORDS};
+use refusal::Refusal;
 use sheet::SheetRows;
 use sheet::line::{MACHINE_LINE, STATE_LINE, TRANSITION_LINE};
 
@@ -18,6 +19,7 @@ const STATES: usize = SHEET / STATE_LINE * STATE_WORDS;
 const TRANSITIONS: usize = SHEET / TRANSITION_LINE * TRANSITION_WORDS;
 
 // Puts the line of an answer, and of the tables' refusal, at the start of line.
+#[tactic(auto, using(crate::proofs::Judged::lined))]
 fn verdict_line(line: &mut [u8], r: SheetRows, tables: u64)
     requires { line_length ≤ length line.old }
     ensures { line.new ≡ verdict_line r tables ++ drop line_length line.old }
@@ -31,6 +33,7 @@ fn verdict_line(line: &mut [u8], r: SheetRows, tables: u64)
 }
 
 // Reads a sheet into the lent tables, judges the rows read, and puts the line at the start of line.
+#[tactic(auto, using(crate::proofs::Judged::machines_inside, crate::proofs::Judged::states_inside, crate::proofs::Judged::transitions_inside))]
 fn judge(
     sheet: &[u8],
     machines: &mut [u64],
@@ -52,12 +55,13 @@ fn judge(
 }
 
 // The line of a sheet of any length.
+#[tactic(auto, unfolding(crate::specs::Verdict::report_line))]
 fn report(bytes: &[u8], line: &mut [u8])
     requires { line_length ≤ length line.old }
     ensures { line.new ≡ report_line bytes.now ++ drop line_length line.old }
 {
     if SHEET < bytes.len() {
-        verdict_line(line, sheet::unread(23), 0);
+        verdict_line(line, sheet::unread(Refusal::NoSheetRoom.into()), 0);
         return;
     }
     let mut machines = [0u64; MACHINES];

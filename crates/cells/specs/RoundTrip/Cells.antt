@@ -1,5 +1,6 @@
 -- The cells of a row: what is written for a u64 is a cell, which reads back as it, and a cell is what is written for its word.
 use Rattle.std.specs.Prelude.{ℕ, ◌*◌, ◌^◌, ◌≤◌, ◌<◌, ◌≡◌, refl, true, List, [], ◌∷◌, ◌++◌, length, take, get_or}
+use Rattle.std.specs.Option.{unwrap_or}
 use Rattle.std.proofs.Common.{sym, ap, ◌∙◌, append-nil, arith, add-zero}
 use Rattle.columns.specs.Columns.{right, rights}
 use Rattle.columns.proofs.Fits.{length-right, length-rights}
@@ -10,15 +11,15 @@ use Rattle.cells.specs.RoundTrip.Pieces.{Kept, Exact, Found, leading_written, ta
 
 -- ---- one cell
 
-written_reads : (n : ℕ) → n < 2 ^ 64 → (cell_of (right word_columns n)).word ≡ n
+written_reads : (n : ℕ) → n < 2 ^ 64 → unwrap_or (cell_of (right word_columns n)) 0 ≡ n
 unfolding cell_of
 written_reads n h = rw (columns_cell n h) (spells n h)
 
-cell_is_written : (bytes : List ℕ) → is_cell bytes ≡ true → right word_columns (cell_of bytes).word ≡ bytes
+cell_is_written : (bytes : List ℕ) → is_cell bytes ≡ true → right word_columns (unwrap_or (cell_of bytes) 0) ≡ bytes
 unfolding cell_of
 cell_is_written bytes h = rw h (sym (cell_columns bytes h).0)
 
-cell_is_u64 : (bytes : List ℕ) → is_cell bytes ≡ true → (cell_of bytes).word < 2 ^ 64
+cell_is_u64 : (bytes : List ℕ) → is_cell bytes ≡ true → unwrap_or (cell_of bytes) 0 < 2 ^ 64
 unfolding cell_of
 cell_is_u64 bytes h = rw h (cell_columns bytes h).1
 
@@ -44,10 +45,10 @@ exact : (bytes : List ℕ) → is_cell bytes ≡ true → length bytes ≤ word_
 exact bytes h l =
     let e = cell_is_written bytes h in
     record {
-      again = one_cell (cell_of bytes).word ∙ e;
-      long = ap length (sym e) ∙ length-right word_columns (cell_of bytes).word;
+      again = one_cell (unwrap_or (cell_of bytes) 0) ∙ e;
+      long = ap length (sym e) ∙ length-right word_columns (unwrap_or (cell_of bytes) 0);
       sized = refl;
-      words = one_word (cell_of bytes).word (cell_is_u64 bytes h);
+      words = one_word (unwrap_or (cell_of bytes) 0) (cell_is_u64 bytes h);
     }
 
 each_cell : (row : List ℕ) → each cells 1 (length row) row ≡ cells row

@@ -1,12 +1,11 @@
 use Prim.Native.Nat.{◌≤◌}
 use mathlib.Core.Path.{◌≡◌}
-use lib.ListN.{length}
 use Rattle.columns.specs.Parts.{digits_in}
 use Rattle.columns.proofs.put_digits.Given as goal
 
 abbrev pub invariant-loop-rest : goal.invariant-loop-rest
 invariant-loop-rest l =
-    (l.at ≤ l.i) × (l.i ≤ l.end) × (length l.line ≡ length l.initial.line) × (digits_in l.at l.i l.rest l.line ≡ digits_in l.at l.end l.n l.initial.line)
+    (l.at ≤ l.i) × (l.i ≤ l.end) × (digits_in l.at l.i l.rest l.line ≡ digits_in l.at l.end l.n l.initial.line)
 
 abbrev pub decreases-loop-rest : goal.decreases-loop-rest
 decreases-loop-rest l = l.i

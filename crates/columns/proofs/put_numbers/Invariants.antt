@@ -1,12 +1,6 @@
-use Prim.Native.Nat.{◌-◌, ◌≤◌}
-use mathlib.Core.Path.{◌≡◌}
-use lib.ListN.{length}
-use Rattle.columns.proofs.Numbers.{Stand}
+use Rattle.std.proofs.Common.{◌≡◌, ◌*◌}
+use Rattle.columns.proofs.Numbers.{stand}
 use Rattle.columns.proofs.put_numbers.Given as goal
 
-abbrev pub invariant-loop-i : goal.invariant-loop-i
-invariant-loop-i l =
-    (l.i ≤ length l.numbers) × (length l.line ≡ length l.initial.line) × Stand l.width l.numbers l.initial.line l.i l.at l.line
-
-abbrev pub decreases-loop-i : goal.decreases-loop-i
-decreases-loop-i l = length l.numbers - l.i
+abbrev pub invariant-loop-n : goal.invariant-loop-n
+invariant-loop-n l = (l.at ≡ l.width * l.n-index) × (l.line ≡ stand l.width l.numbers l.initial.line l.n-index l.at)

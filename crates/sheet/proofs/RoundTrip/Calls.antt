@@ -9,7 +9,7 @@ use Rattle.machine.specs.Constants.{machine_words, state_words, transition_words
 use Rattle.cells.specs.RoundTrip.U64.{Words}
 use Rattle.sheet.specs.Sheet.{sheet_of}
 use Rattle.sheet.specs.Writer.{whole_rows, write_refusal, over, sheet_write}
-use Rattle.sheet.specs.Reader.{machine_lines, state_lines, transition_lines, form_of, room_for, read_refusal, sheet_read}
+use Rattle.sheet.specs.Reader.{machine_lines, state_lines, transition_lines, form_of, rows_in, room_for, read_refusal, sheet_read}
 use Rattle.sheet.proofs.RoundTrip.Form.{Sound, machines_of, states_of, transitions_of}
 
 -- ---- the writer
@@ -81,10 +81,10 @@ module _ (sheet m s t : List ℕ) where
   pub form_passed : read_refusal sheet m s t ≡ 0 → (form_of sheet).whole ≡ true
   unfolding read_refusal
   form_passed h =
-      by_tests (form_of sheet).whole refl (room_for (form_of sheet) (length m) (length s) (length t)) refl
+      by_tests (form_of sheet).whole refl (room_for (rows_in (form_of sheet)) (length m) (length s) (length t)) refl
     where
       by_tests : (a : Bool) → (form_of sheet).whole ≡ a
-          → (b : Bool) → room_for (form_of sheet) (length m) (length s) (length t) ≡ b
+          → (b : Bool) → room_for (rows_in (form_of sheet)) (length m) (length s) (length t) ≡ b
           → a ≡ true
       by_tests true e b f = refl
       by_tests false e true f = absurd (omega (arith, simp (e, f) at h))

@@ -1,13 +1,7 @@
-use Prim.Native.Nat.{◌*◌, ◌/◌, ◌-◌, ◌≤◌}
-use mathlib.Core.Path.{◌≡◌}
-use lib.ListN.{length}
+use Rattle.std.proofs.Common.{◌/◌, length}
 use Rattle.cells.specs.Laws.{Passed}
 use Rattle.lines.specs.Lines.{is_line}
 use Rattle.lines.proofs.reading.lines.Given as goal
 
-abbrev pub invariant-loop-at : goal.invariant-loop-at
-invariant-loop-at l =
-    (l.at ≤ length l.text) × (l.at ≡ l.size * l.i) × (l.i ≤ l.at) × Passed (is_line l.kind l.words) l.size (length l.text / l.size) l.text l.i
-
-abbrev pub decreases-loop-at : goal.decreases-loop-at
-decreases-loop-at l = length l.text - l.at
+abbrev pub invariant-loop-i : goal.invariant-loop-i
+invariant-loop-i l = Passed (is_line l.kind.number l.kind.words) l.kind.size (length l.text / l.kind.size) l.text l.i

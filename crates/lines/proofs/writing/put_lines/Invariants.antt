@@ -1,12 +1,7 @@
-use Prim.Native.Nat.{◌*◌, ◌-◌, ◌≤◌}
-use mathlib.Core.Path.{◌≡◌}
-use lib.ListN.{length}
-use Rattle.lines.proofs.Written.{Lines}
+use Rattle.std.proofs.Common.{◌≡◌, ◌*◌, ◌++◌, drop}
+use Rattle.cells.specs.Cells.{each}
+use Rattle.lines.specs.Lines.{line_of}
 use Rattle.lines.proofs.writing.put_lines.Given as goal
 
 abbrev pub invariant-loop-i : goal.invariant-loop-i
-invariant-loop-i l =
-    (l.i ≤ l.n) × (l.row ≡ l.words * l.i) × (l.at ≡ l.size * l.i) × (length l.sheet ≡ length l.initial.sheet) × Lines l.kind l.words l.table l.initial.sheet l.i l.at l.sheet
-
-abbrev pub decreases-loop-i : goal.decreases-loop-i
-decreases-loop-i l = l.n - l.i
+invariant-loop-i l = l.sheet ≡ each (line_of l.kind.number) l.kind.words l.i l.table ++ drop (l.kind.size * l.i) l.initial.sheet

@@ -4,9 +4,8 @@ use Rattle.sheet.proofs.reading.put_tables.Goals as goal
 
 pub returns : goal.returns
 returns c =
-    let s = c in
-    let a = s.args in (
+    let a = c.args in (
       c.put_rows.ensures,
-      rw (states_at_lem a.sheet.now a.rows s.requires.0) at c.put_rows-2.ensures,
-      rw (transitions_at_lem a.sheet.now a.rows s.requires.0) at c.put_rows-3.ensures,
+      rw (states_at_lem a.sheet.now a.rows c.requires.0) at c.put_rows-2.ensures,
+      rw (transitions_at_lem a.sheet.now a.rows c.requires.0) at c.put_rows-3.ensures,
     )
