@@ -7,7 +7,7 @@ use native.Mathlib.Omega.{arith}
 use lib.Dec.{eqb, ltb}
 use lib.ListN.{length, take, drop}
 use lib.Seq.{take_at}
-use borrow.Author.Tests.{ltb-false, eqb-true, eq-eqb, ne_eqb}
+use borrow.Author.Tests.{ltb-false, eqb-true, eq-eqb}
 use Rattle.text.specs.Words.{words_to}
 use Rattle.text.proofs.Stores.{length-words}
 use Rattle.stream.specs.Stream.{size_refusal, input_words, input_refusal, loaded, check_of}

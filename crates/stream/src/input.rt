@@ -4,6 +4,7 @@
 ghost use Rattle.std.specs.Prelude.{◌≡◌, IfOk, length};
 ghost use Rattle.refusal.specs.Refusal.{refusal_of};
 ghost use Rattle.stream.specs.Stream.{
+  calls_at,
   chance_words,
   check_of,
   layout_of,
@@ -14,8 +15,8 @@ ghost use Rattle.stream.specs.Stream.{
 };
 ghost use Rattle.stream.specs.Within.{Ordered};
 
-use refusal::Refusal;
 use super::{HEADER_WORDS, Layout, check, parts};
+use refusal::Refusal;
 
 // Words that the check accepts, and where their parts start.
 #[derive(Clone, Copy)]
@@ -82,5 +83,11 @@ impl<'a> Input<'a> {
         ensures { result.now ≡ value_words self.now.words.now }
     {
         &self.words[self.layout.values..self.layout.calls]
+    }
+    // Where the first call starts.
+    pub fn first_call(&self) -> usize
+        ensures { result ≡ calls_at self.now.words.now }
+    {
+        self.layout.calls
     }
 }

@@ -15,7 +15,6 @@ ghost use Rattle.stream.specs.Stream.{
   layout_of,
   loaded,
   machine_table,
-  narrow as narrow_of,
   next_call,
   size_refusal,
   state_table,
@@ -29,7 +28,9 @@ use refusal::Refusal;
 
 mod input; // an accepted input
 
+// Word k of words, or 0 past the end.
 pub use input::Input;
+pub use machine::state::word;
 
 // The words of the header.
 const HEADER_WORDS: usize = 9;
@@ -52,20 +53,14 @@ pub struct Call {
     pub next: usize,
 }
 
-// Word k, or 0 past the end.
-pub fn word(words: &[u64], k: usize) -> u64
-    ensures { result ≡ get_or words.now k 0 }
-{
-    words.get(k).copied().unwrap_or(0)
-}
-
 // The place behind so many rows from `at` on, in words that end at `end`: one past the end stands
 // for every place beyond it, so no count is too large.
 fn after(end: usize, at: usize, rows: u64, width: usize) -> usize
     requires { end < 2305843009213693952 }
     ensures { result ≡ min (at + width * rows) (end + 1) }
 {
-    at.saturating_add(width.saturating_mul(rows as usize)).min(end + 1)
+    at.saturating_add(width.saturating_mul(rows as usize))
+        .min(end + 1)
 }
 
 // The parts' places, one past the end for those beyond it.
@@ -204,6 +199,7 @@ pub fn call_at(words: &[u64], at: usize) -> Call
 }
 
 // Its event words.
+#[tactic(auto, using(crate::proofs::Clip::cut), unfolding(crate::specs::Stream::events_of))]
 pub fn events_at(words: &[u64], at: usize) -> &[u64]
     requires { next_call words.now at ≤ length words.now }
     ensures { result.now ≡ events_of words.now at }
