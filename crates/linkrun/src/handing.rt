@@ -5,6 +5,7 @@ ghost use Rattle.run.specs.Run.{input_text};
 // How far into an input's text the parts reach that were handed over, and whether all of them could
 // be written. The fields are this module's, so nobody gets further but by handing the next part
 // over.
+// a flag beside the place: behind a failed write the parts go on to the text's end
 #[derive(Clone, Copy)]
 pub struct Handed<'a> {
     input: &'a [u8],

@@ -49,6 +49,7 @@ impl<'a> Input<'a> {
         }
     }
 
+    // The machine table, the state table and the transition table.
     #[tactic(auto, using(crate::proofs::Clip::cut), unfolding(crate::specs::Stream::machine_table, crate::specs::Stream::states_at))]
     pub fn machines(&self) -> &'a [u64]
         ensures { result.now ≡ machine_table self.now.words.now }
@@ -70,7 +71,7 @@ impl<'a> Input<'a> {
         &self.words[self.layout.transitions..self.layout.chances]
     }
 
-    // The words of the chance draws, and of the value draws.
+    // The words of the chance draws and of the value draws.
     #[tactic(auto, using(crate::proofs::Clip::cut), unfolding(crate::specs::Stream::chance_words, crate::specs::Stream::values_at))]
     pub fn chances(&self) -> &'a [u64]
         ensures { result.now ≡ chance_words self.now.words.now }

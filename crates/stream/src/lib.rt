@@ -28,9 +28,8 @@ use refusal::Refusal;
 
 mod input; // an accepted input
 
-// Word k of words, or 0 past the end.
 pub use input::Input;
-pub use machine::state::word;
+pub use machine::state::word; // word k, or 0 past the end
 
 // The words of the header.
 const HEADER_WORDS: usize = 9;
@@ -141,6 +140,7 @@ pub fn parts(words: &[u64]) -> Layout
     places(words)
 }
 
+// The words from one place up to another.
 fn between(words: &[u64], from: usize, to: usize) -> &[u64]
     requires { (from ≤ to) × (to ≤ length words.now) }
     ensures { result.now ≡ take (to - from) (drop from words.now) }
@@ -148,7 +148,7 @@ fn between(words: &[u64], from: usize, to: usize) -> &[u64]
     &words[from..to]
 }
 
-// The parts of accepted words.
+// The parts of accepted words, each as the `Input` of these words has it.
 pub fn machine_table(words: &[u64]) -> &[u64]
     requires { check_of words.now ≡ 0 }
     ensures { result.now ≡ machine_table words.now }

@@ -45,6 +45,7 @@ fn put_row(out: &mut [u8], at: usize, rows: &[u64], i: usize)
 }
 
 // What a call prints: its line, and the lines of its rows. Answers how many bytes that is.
+// actions beside rows: a caller may lend more rows than are printed
 pub fn call_text(out: &mut [u8], call: u64, refusal: u64, actions: usize, rows: &[u64]) -> usize
     requires { (15 + 41 * actions ≤ length out.old) × (row_words * actions ≤ length rows.now) }
     ensures { (result ≡ 15 + 41 * actions)
@@ -72,6 +73,7 @@ fn put<A: Copy, T: Copy, F: Fn(A) -> T>(items: &[A], out: &mut [T], convert: F)
 }
 
 // Puts the first k words of b at the start of out.
+// k beside the slices: a caller may lend longer ones than k words take
 pub fn put_words(b: &[u8], k: usize, out: &mut [u64])
     requires { (8 * k ≤ length b.now) × (k ≤ length out.old) }
     ensures { out.new ≡ words_to b.now k ++ drop k out.old }
