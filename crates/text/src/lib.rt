@@ -9,6 +9,7 @@ ghost use Rattle.text.specs.Words.{words_to, chances, values};
 use machine::constants::ROW_WORDS;
 
 // A call's line: call, refusal and actions in 6, 4 and 4 columns, and a line feed.
+#[tactic(auto, using(crate::proofs::Lines::call_lined))]
 fn call_line(line: &mut [u8], call: u64, refusal: u64, actions: u64)
     requires { 15 ≤ length line.old }
     ensures { line.new
@@ -21,6 +22,7 @@ fn call_line(line: &mut [u8], call: u64, refusal: u64, actions: u64)
 }
 
 // A row's line: its six words in 4, 4, 4, 4, 12 and 12 columns, and a line feed.
+#[tactic(auto, using(crate::proofs::Lines::row_lined))]
 fn row_line(line: &mut [u8], row: &[u64])
     requires { (41 ≤ length line.old) × (row_words ≤ length row.now) }
     ensures { line.new
@@ -36,6 +38,7 @@ fn row_line(line: &mut [u8], row: &[u64])
 }
 
 // The line of row i, from `at` on.
+#[tactic(auto, using(crate::proofs::Lines::rowed))]
 fn put_row(out: &mut [u8], at: usize, rows: &[u64], i: usize)
     requires { (at + 41 ≤ length out.old) × (row_words * i + row_words ≤ length rows.now) }
     ensures { out.new ≡ row_in at rows.now i out.old }
