@@ -63,6 +63,7 @@ fn after(end: usize, at: usize, rows: u64, width: usize) -> usize
 }
 
 // The parts' places, one past the end for those beyond it.
+#[tactic(auto, using(crate::proofs::Clip::behind, crate::proofs::Clip::behind_tape, crate::proofs::Clip::laid_by), unfolding(crate::specs::Stream::states_at, crate::specs::Stream::transitions_at, crate::specs::Stream::chances_at, crate::specs::Stream::values_at, crate::specs::Stream::calls_at))]
 fn places(words: &[u64]) -> Layout
     ensures { result ≡ places_of words.now }
 {
@@ -93,6 +94,7 @@ fn call_end(words: &[u64], at: usize) -> usize
 }
 
 // The place behind the last call, where the first is at `first`.
+#[tactic(auto, using(crate::proofs::Clip::next_call_lem, crate::proofs::Clip::beyond, crate::proofs::Clip::all_calls), unfolding(crate::specs::Stream::call_at))]
 fn calls_end(words: &[u64], first: usize) -> usize
     requires { first ≡ within words.now (calls_at words.now) }
     ensures { result ≡ within words.now (end_at words.now) }
@@ -132,6 +134,7 @@ pub fn check(words: &[u64]) -> Result<(), Refusal>
 }
 
 // Where the parts of accepted words start.
+#[tactic(auto, using(crate::proofs::Clip::exact, crate::specs::Inside::accepted, crate::specs::Inside::parts_inside))]
 pub fn parts(words: &[u64]) -> Layout
     requires { check_of words.now ≡ 0 }
     ensures is { result ≡ layout_of words.now }

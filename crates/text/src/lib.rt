@@ -63,6 +63,7 @@ pub fn call_text(out: &mut [u8], call: u64, refusal: u64, actions: usize, rows: 
 }
 
 // Puts what `convert` makes of each item at the start of out.
+#[tactic(auto, using(crate::proofs::Stores::put_more))]
 fn put<A: Copy, T: Copy, F: Fn(A) -> T>(items: &[A], out: &mut [T], convert: F)
     requires room { length items.now ≤ length out.old }
     requires callable { F.IsAlwaysCallable convert }
