@@ -50,6 +50,7 @@ fn further(at: usize, used: u64, len: usize) -> usize
 }
 
 // Opens the framework of an accepted input.
+#[tactic(auto, unfolding(crate::specs::Run::started, crate::specs::Run::opened_of))]
 pub fn start(input: &Input, values: &[f64]) -> Started
     requires { values.now ≡ values_of (value_words input.now.words.now) }
     ensures is { result ≡ started input.now.words.now }
@@ -77,6 +78,7 @@ pub fn start(input: &Input, values: &[f64]) -> Started
 }
 
 // Runs the call that comes next, as call i, and puts what it prints at the start of line.
+#[tactic(auto, using(crate::proofs::Called::rows_few))]
 pub fn one_call(lent: &Lent, i: u64, s: Standing, line: &mut [u8]) -> Rendered
     requires next { next_call lent.now.input.words.now s.next ≤ length lent.now.input.words.now }
     requires tapes { (s.chance ≤ length lent.now.chances.now) × (s.value ≤ length lent.now.values.now) }

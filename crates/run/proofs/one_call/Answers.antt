@@ -5,11 +5,6 @@ use Rattle.run.specs.Run.{batch_at}
 use Rattle.run.proofs.Called.{answered, stood, prints, rows_few}
 use Rattle.run.proofs.one_call.Goals as goal
 
-pub call_text-bytes-requires : goal.call_text-bytes-requires
-call_text-bytes-requires c =
-    let b = c.batch-a in
-    omega (arith, rows_few _ _ _ _ _ _ _ b.ensures.0, c.requires.room, b.auto.out)
-
 pub returns : goal.returns
 returns c =
     let lent = c.args.lent.now in
