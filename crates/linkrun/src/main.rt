@@ -47,6 +47,7 @@ fn calls(lent: &Lent, opened: Standing, handed: &mut Handed)
 
 // Runs the opening of an accepted input on its tapes, hands its line over, and goes on with the
 // calls; a refused opening ends the run.
+#[tactic(auto, using(stream::specs::Inside::tapes_inside))]
 fn run(input: Input, handed: &mut Handed)
     requires start { handed.old.from ≡ 0 }
     requires text { input_text handed.old.input.now ≡ run_text input.words.now }
@@ -72,6 +73,7 @@ fn run(input: Input, handed: &mut Handed)
 }
 
 // Hands over the text of any input, to its end.
+#[tactic(auto, using(stream::proofs::Loaded::taken_up))]
 fn print(input: &[u8]) -> Handed
     ensures { drop result.from (input_text input.now) ≡ [] }
 {

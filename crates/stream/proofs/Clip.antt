@@ -1,5 +1,5 @@
 -- Places that stop one past the end: their sums, the parts' and the calls' places, and the words between two.
-use Prim.Native.Nat.{ℕ, ◌+◌, ◌*◌, ◌-◌, ◌≤◌, ◌<◌, min}
+use Prim.Native.Nat.{ℕ, ◌+◌, ◌-◌, ◌≤◌, ◌<◌}
 use mathlib.Core.Path.{◌≡◌, sym, ap, ◌∙◌}
 use mathlib.Core.Bool.{Bool, cond}
 use mathlib.Core.List.{List}
@@ -13,13 +13,6 @@ use Rattle.stream.specs.Inside.{in_order, calls_grow}
 use Rattle.stream.specs.declared.Layout.{Layout}
 
 -- ---- the parts' places
-
--- the place behind a part, from the place where the part starts
-pub behind : (L p z at r : ℕ) → at ≡ min p L → r ≡ min (at + z) L → r ≡ min (p + z) L
-behind L p z at r e f = omega arith
-
-pub behind_tape : (L p z at r : ℕ) → at ≡ min p L → r ≡ min (at + 1 * z) L → r ≡ min (p + z) L
-behind_tape L p z at r e f = omega arith
 
 abbrev pub laid : ℕ → ℕ → ℕ → ℕ → ℕ → Layout
 laid a b c d e = record { states = a; transitions = b; chances = c; values = d; calls = e }

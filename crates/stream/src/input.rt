@@ -50,21 +50,21 @@ impl<'a> Input<'a> {
     }
 
     // The machine table, the state table and the transition table.
-    #[tactic(auto, using(crate::proofs::Clip::cut), unfolding(crate::specs::Stream::machine_table, crate::specs::Stream::states_at))]
+    #[tactic(auto, unfolding(crate::specs::Stream::machine_table, crate::specs::Stream::states_at))]
     pub fn machines(&self) -> &'a [u64]
         ensures { result.now ≡ machine_table self.now.words.now }
     {
         &self.words[HEADER_WORDS..self.layout.states]
     }
 
-    #[tactic(auto, using(crate::proofs::Clip::cut), unfolding(crate::specs::Stream::state_table, crate::specs::Stream::transitions_at))]
+    #[tactic(auto, unfolding(crate::specs::Stream::state_table, crate::specs::Stream::transitions_at))]
     pub fn states(&self) -> &'a [u64]
         ensures { result.now ≡ state_table self.now.words.now }
     {
         &self.words[self.layout.states..self.layout.transitions]
     }
 
-    #[tactic(auto, using(crate::proofs::Clip::cut), unfolding(crate::specs::Stream::transition_table, crate::specs::Stream::chances_at))]
+    #[tactic(auto, unfolding(crate::specs::Stream::transition_table, crate::specs::Stream::chances_at))]
     pub fn transitions(&self) -> &'a [u64]
         ensures { result.now ≡ transition_table self.now.words.now }
     {
@@ -72,14 +72,14 @@ impl<'a> Input<'a> {
     }
 
     // The words of the chance draws and of the value draws.
-    #[tactic(auto, using(crate::proofs::Clip::cut), unfolding(crate::specs::Stream::chance_words, crate::specs::Stream::values_at))]
+    #[tactic(auto, unfolding(crate::specs::Stream::chance_words, crate::specs::Stream::values_at))]
     pub fn chances(&self) -> &'a [u64]
         ensures { result.now ≡ chance_words self.now.words.now }
     {
         &self.words[self.layout.chances..self.layout.values]
     }
 
-    #[tactic(auto, using(crate::proofs::Clip::cut), unfolding(crate::specs::Stream::value_words, crate::specs::Stream::calls_at))]
+    #[tactic(auto, unfolding(crate::specs::Stream::value_words, crate::specs::Stream::calls_at))]
     pub fn values(&self) -> &'a [u64]
         ensures { result.now ≡ value_words self.now.words.now }
     {

@@ -63,7 +63,7 @@ fn after(end: usize, at: usize, rows: u64, width: usize) -> usize
 }
 
 // The parts' places, one past the end for those beyond it.
-#[tactic(auto, using(crate::proofs::Clip::behind, crate::proofs::Clip::behind_tape, crate::proofs::Clip::laid_by), unfolding(crate::specs::Stream::states_at, crate::specs::Stream::transitions_at, crate::specs::Stream::chances_at, crate::specs::Stream::values_at, crate::specs::Stream::calls_at))]
+#[tactic(auto, unfolding(crate::specs::Stream::states_at, crate::specs::Stream::transitions_at, crate::specs::Stream::chances_at, crate::specs::Stream::values_at, crate::specs::Stream::calls_at))]
 fn places(words: &[u64]) -> Layout
     ensures { result ≡ places_of words.now }
 {
@@ -202,7 +202,7 @@ pub fn call_at(words: &[u64], at: usize) -> Call
 }
 
 // Its event words.
-#[tactic(auto, using(crate::proofs::Clip::cut), unfolding(crate::specs::Stream::events_of))]
+#[tactic(auto, unfolding(crate::specs::Stream::events_of))]
 pub fn events_at(words: &[u64], at: usize) -> &[u64]
     requires { next_call words.now at ≤ length words.now }
     ensures { result.now ≡ events_of words.now at }

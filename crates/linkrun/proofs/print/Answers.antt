@@ -1,7 +1,6 @@
 -- `linkrun::print` meets its contract: a refused input's text is one line, and an accepted one's is its run's.
-use Rattle.std.proofs.Common.{◌∙◌, refl, sym, ap, [], length, arith}
+use Rattle.std.proofs.Common.{◌∙◌, refl, sym, ap, [], arith}
 use Rattle.refusal.specs.Refusal.{number}
-use Rattle.stream.specs.Stream.{check_of}
 use Rattle.stream.proofs.Loaded.{taken_up}
 use Rattle.run.specs.Run.{input_text, run_text}
 use Rattle.linkrun.proofs.Parts.{refused, first_is, behind_first, input_refused, input_accepted}
@@ -12,18 +11,6 @@ slice_bounds-words-end c =
     let l = c.in-Ok.ensures in
     let t = taken_up c.args.input.now _ _ (sym l.answer) l.words in
     omega (arith, t.3)
-
-pub slice_bounds-accepted-end : goal.slice_bounds-accepted-end
-slice_bounds-accepted-end c =
-    let l = c.in-Ok.ensures in
-    let t = taken_up c.args.input.now _ _ (sym l.answer) l.words in
-    sym t.2 ∙ ap length (sym t.0)
-
-pub accepted-requires : goal.accepted-requires
-accepted-requires c =
-    let l = c.in-Ok.ensures in
-    let t = taken_up c.args.input.now _ _ (sym l.answer) l.words in
-    ap check_of t.0 ∙ t.1
 
 pub run-requires-clause-text : goal.run-requires-clause-text
 run-requires-clause-text c =

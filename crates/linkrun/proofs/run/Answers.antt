@@ -1,18 +1,7 @@
 -- `linkrun::run` meets its contract: its line is the first part of the run's text, and the calls print the rest.
-use Rattle.std.proofs.Common.{ap, ◌∙◌, [], arith, length}
-use Rattle.stream.specs.Inside.{tapes_inside}
+use Rattle.std.proofs.Common.{◌∙◌, [], arith}
 use Rattle.linkrun.proofs.Parts.{first_is, behind_first, opens, opens_refused, opens_accepted, at_first}
 use Rattle.linkrun.proofs.run.Goals as goal
-
-pub put_chances-requires : goal.put_chances-requires
-put_chances-requires c =
-    let input = c.args.input in
-    omega (arith, tapes_inside input.words.now input.accepted, ap length c.chances-chance_words.ensures, c.requires.few)
-
-pub put_values-requires : goal.put_values-requires
-put_values-requires c =
-    let input = c.args.input in
-    omega (arith, tapes_inside input.words.now input.accepted, ap length c.values-value_words.ensures, c.requires.few)
 
 pub first_line-requires-clause-next : goal.first_line-requires-clause-next
 first_line-requires-clause-next c =
