@@ -1,16 +1,12 @@
 -- What is left of a run's text: the next call's text, and what is left behind it.
-use Prim.Native.Nat.{ℕ, suc, ◌+◌, ◌-◌, ◌<◌}
-use mathlib.Core.Path.{◌≡◌, refl, sym, ap, ◌∙◌}
-use mathlib.Core.List.{List, [], ◌++◌, append-nil}
-use mathlib.Core.Bool.{cond}
-use lib.Dec.{eqb}
+use Rattle.std.proofs.Common.{ℕ, suc, ◌+◌, ◌-◌, ◌<◌, ◌≡◌, refl, sym, ap, ◌∙◌, List, [], ◌++◌, append-nil, cond, eqb, add-one, arith, length, take, drop}
 use borrow.Author.Tests.{eq-eqb, ne_eqb}
-use native.Mathlib.Omega.{arith}
-use native.Mathlib.Numerals.{add-one}
-use Rattle.text.specs.Printed.{call_text, row_lines}
-use Rattle.stream.specs.Stream.{call_at, call_count, calls_at, input_refusal, input_words}
-use lib.ListN.{length, take, drop}
 use lib.Seq.{take_at, drop_at, drop-drop}
+use Rattle.refusal.specs.declared.Refusal.{Refusal}
+use Rattle.refusal.specs.Refusal.{number}
+use Rattle.text.specs.Printed.{call_text}
+use Rattle.text.proofs.Lines.{length-call_text}
+use Rattle.stream.specs.Stream.{call_at, call_count, calls_at, input_refusal, input_words}
 use Rattle.run.specs.Run.{printed, stands_after, started, calls_text, run_text, input_text}
 use Rattle.run.specs.declared.Standing.{Standing}
 use Rattle.run.specs.declared.Started.{Started}
@@ -51,11 +47,13 @@ pub next_is : (ws : List ℕ) (i : ℕ) (s t : Standing) → t ≡ stands_after 
 unfolding stands_after call_at
 next_is ws i s t e h = rw (add-one, e, h)
 
--- ---- a call without rows prints its line, whatever rows were lent
-pub no_rows : (call refusal : ℕ) (rows line o : List ℕ) (n : ℕ) → line ≡ call_text call refusal 0 rows ++ drop n o
-    → line ≡ call_text call refusal 0 [] ++ drop n o
-unfolding call_text row_lines
-no_rows call refusal rows line o n h = h
+-- ---- the line of call 0 is the text's first 15 bytes
+module _ (refusal : ℕ) (R T : List ℕ) (left : T ≡ call_text 0 refusal 0 [] ++ R) where
+  pub first_is : take 15 T ≡ call_text 0 refusal 0 []
+  first_is = rw left (take_at (call_text 0 refusal 0 []) R 15 (length-call_text 0 refusal 0 []))
+
+  pub behind_first : (from : ℕ) → from ≡ 15 → drop from T ≡ R
+  behind_first from e = rw (e, left) (drop_at (call_text 0 refusal 0 []) R 15 (length-call_text 0 refusal 0 []))
 
 -- ---- the opening's line, and what follows it
 module _ (ws : List ℕ) (o : Started) (is : o ≡ started ws) where
@@ -82,3 +80,7 @@ module _ (bs : List ℕ) (refusal : ℕ) (is : refusal ≡ input_refusal bs) whe
   pub input_accepted : refusal ≡ 0 → input_text bs ≡ run_text (input_words bs)
   unfolding input_text
   input_accepted h = rw (sym is, eq-eqb refusal 0 h)
+
+-- no refusal's number is 0
+pub refused : (r : Refusal) → number r ≡ 0 → ⊥
+refused r h = grind (arith, h)

@@ -2,37 +2,38 @@
 ghost use Rattle.std.specs.Prelude.{◌≡◌, ◌+◌, ◌<◌, length, take, drop};
 ghost use Rattle.run.specs.Run.{input_text};
 
-// How far into the text the parts reach that were handed over, and whether all of them could be
-// written. The fields are this module's, so nobody gets further but by handing the next part over.
+// How far into an input's text the parts reach that were handed over, and whether all of them could
+// be written. The fields are this module's, so nobody gets further but by handing the next part
+// over.
+// a flag beside the place: behind a failed write the parts go on to the text's end
 #[derive(Clone, Copy)]
-pub struct Handed {
+pub struct Handed<'a> {
+    input: &'a [u8],
     from: usize,
     whole: bool,
 }
 
-// Nothing yet.
-pub fn nothing() -> Handed
-    ensures { result.from ≡ 0 }
-{
-    Handed {
-        from: 0,
-        whole: true,
+impl<'a> Handed<'a> {
+    // Nothing yet.
+    pub fn nothing(input: &'a [u8]) -> Handed<'a>
+        ensures { (result.from ≡ 0) × (result.input.now ≡ input.now) }
+    {
+        Handed {
+            input,
+            from: 0,
+            whole: true,
+        }
     }
-}
 
-// The only call of write: `part` is what comes next in the input's text. Behind a write that failed
-// nothing more is written.
-pub fn hand_over(input: &[u8], h: Handed, part: &[u8]) -> Handed
-    requires { (part.now ≡ take (length part.now) (drop h.from (input_text input.now)))
-        × (h.from + length part.now < 18446744073709551616) }
-    ensures { result.from ≡ h.from + length part.now }
-{
-    let mut whole = h.whole;
-    if whole {
-        whole = io::write_all(1, part);
-    }
-    Handed {
-        from: h.from + part.len(),
-        whole: whole,
+    // The only call of write: `part` is what comes next in the input's text. Behind a write that
+    // failed nothing more is written.
+    pub fn hand_over(&mut self, part: &[u8])
+        requires next { part.now ≡ take (length part.now) (drop self.old.from (input_text self.old.input.now)) }
+        requires fits { self.old.from + length part.now < 18446744073709551616 }
+        ensures further { self.new.from ≡ self.old.from + length part.now }
+        ensures same { self.new.input.now ≡ self.old.input.now }
+    {
+        self.whole = self.whole && io::write_all(1, part);
+        self.from += part.len();
     }
 }

@@ -3,91 +3,87 @@
 
 mod handing;
 
-ghost use Rattle.std.specs.Prelude.{◌≡◌, [], ◌≤◌, length, drop};
-ghost use Rattle.text.specs.Words.{chances as chances_of, values as values_of};
-ghost use Rattle.stream.specs.Stream.{check_of, call_count, calls_at, chance_words, value_words};
+ghost use Rattle.std.specs.Prelude.{◌≡◌, [], ◌≤◌, length, take, drop};
+ghost use Rattle.text.specs.Printed.{call_text};
+ghost use Rattle.stream.specs.Stream.{call_count, calls_at};
 ghost use Rattle.run.specs.Run.{calls_text, input_text, run_text};
 
-use handing::{Handed, hand_over};
-use run::Standing;
+use handing::Handed;
+use run::{Lent, Standing};
+use stream::Input;
 
-// Runs the calls behind an accepted opening, whose text was handed over, and hands over what each
-// prints.
-fn calls(
-    input: &[u8],
-    words: &[u64],
-    chances: &[f32],
-    values: &[f64],
-    opened: Standing,
-    line: Handed,
-) -> Handed
-    requires { (check_of words.now ≡ 0) × (length words.now ≤ 8192)
-        × (chances.now ≡ chances_of (chance_words words.now)) × (values.now ≡ values_of (value_words words.now))
-        × (opened.next ≡ calls_at words.now) × (opened.chance ≤ length chances.now) × (opened.value ≤ length values.now)
-        × (line.from ≤ 671) × (drop line.from (input_text input.now) ≡ calls_text words.now (call_count words.now) 1 opened) }
-    ensures { drop result.from (input_text input.now) ≡ [] }
+// Hands over the line of call 0: of the opening, or of an input that is refused.
+fn first_line(handed: &mut Handed, refusal: u64)
+    requires start { handed.old.from ≡ 0 }
+    requires next { take 15 (input_text handed.old.input.now) ≡ call_text 0 refusal 0 [] }
+    ensures further { handed.new.from ≡ 15 }
+    ensures same { handed.new.input.now ≡ handed.old.input.now }
 {
-    let count = stream::word(words, 8);
+    let mut line = [0u8; 15];
+    let rows: [u64; 0] = [];
+    text::call_text(&mut line, 0, refusal, 0, &rows);
+    handed.hand_over(&line);
+}
+
+// Runs the calls behind an accepted opening, whose line was handed over, and hands over what each
+// prints.
+fn calls(lent: &Lent, opened: Standing, handed: &mut Handed)
+    requires few { length lent.now.input.words.now ≤ 8192 }
+    requires stands { (opened.next ≡ calls_at lent.now.input.words.now) × (opened.chance ≤ length lent.now.chances.now)
+        × (opened.value ≤ length lent.now.values.now) }
+    requires left { (handed.old.from ≤ 671)
+        × (drop handed.old.from (input_text handed.old.input.now) ≡ calls_text lent.now.input.words.now (call_count lent.now.input.words.now) 1 opened) }
+    ensures { drop handed.new.from (input_text handed.old.input.now) ≡ [] }
+{
+    let count = stream::word(lent.input.words, 8);
     let mut text = [0u8; 671];
     let mut s = opened;
-    let mut h = line;
-    let mut i: u64 = 0;
-    while i < count {
-        let r = run::one_call(words, chances, values, i + 1, s, &mut text);
-        let n = r.bytes;
-        h = hand_over(input, h, &text[..n]);
+    for i in 0..count {
+        let r = run::one_call(lent, i + 1, s, &mut text);
+        handed.hand_over(&text[..r.bytes]);
         s = r.stands;
-        i += 1;
     }
-    h
 }
 
-// Runs the opening, hands its line over, and goes on with the calls; a refused opening ends the run.
-fn opening(input: &[u8], words: &[u64], chances: &[f32], values: &[f64]) -> Handed
-    requires { (input_text input.now ≡ run_text words.now) × (check_of words.now ≡ 0) × (length words.now ≤ 8192)
-        × (chances.now ≡ chances_of (chance_words words.now)) × (values.now ≡ values_of (value_words words.now)) }
-    ensures { drop result.from (input_text input.now) ≡ [] }
-{
-    let started = run::start(words, values);
-    let mut line = [0u8; 15];
-    let n = text::call_text(&mut line, 0, started.refusal, 0, &words[..0]);
-    let h = hand_over(input, handing::nothing(), &line[..n]);
-    if started.refusal != 0 {
-        return h;
-    }
-    let s = started.stands;
-    calls(input, words, chances, values, s, h)
-}
-
-// The tapes of an accepted input, and its run.
-fn run(input: &[u8], words: &[u64]) -> Handed
-    requires { (input_text input.now ≡ run_text words.now) × (check_of words.now ≡ 0) × (length words.now ≤ 8192) }
-    ensures { drop result.from (input_text input.now) ≡ [] }
+// Runs the opening of an accepted input on its tapes, hands its line over, and goes on with the
+// calls; a refused opening ends the run.
+#[tactic(auto, using(stream::specs::Inside::tapes_inside))]
+fn run(input: Input, handed: &mut Handed)
+    requires start { handed.old.from ≡ 0 }
+    requires text { input_text handed.old.input.now ≡ run_text input.words.now }
+    requires few { length input.words.now ≤ 8192 }
+    ensures { drop handed.new.from (input_text handed.old.input.now) ≡ [] }
 {
     let mut chances = [0f32; 8192];
     let mut values = [0f64; 8192];
-    let c = stream::chance_words(words);
-    let v = stream::value_words(words);
-    let k = c.len();
-    let n = v.len();
-    text::put_chances(c, &mut chances);
-    text::put_values(v, &mut values);
-    opening(input, words, &chances[..k], &values[..n])
+    let chance_words = input.chances();
+    let value_words = input.values();
+    text::put_chances(chance_words, &mut chances);
+    text::put_values(value_words, &mut values);
+    let lent = Lent {
+        input,
+        chances: &chances[..chance_words.len()],
+        values: &values[..value_words.len()],
+    };
+    let started = run::start(&input, lent.values);
+    first_line(handed, started.refusal);
+    if started.refusal == 0 {
+        calls(&lent, started.stands, handed);
+    }
 }
 
 // Hands over the text of any input, to its end.
+#[tactic(auto, using(stream::proofs::Loaded::taken_up))]
 fn print(input: &[u8]) -> Handed
     ensures { drop result.from (input_text input.now) ≡ [] }
 {
+    let mut handed = Handed::nothing(input);
     let mut words = [0u64; 8192];
-    let refusal = stream::load(input, &mut words);
-    if refusal != 0 {
-        let mut line = [0u8; 15];
-        let k = text::call_text(&mut line, 0, refusal, 0, &words[..0]);
-        return hand_over(input, handing::nothing(), &line[..k]);
+    match stream::load(input, &mut words) {
+        Ok(()) => run(Input::accepted(&words[..input.len() / 8]), &mut handed),
+        Err(refusal) => first_line(&mut handed, refusal.into()),
     }
-    let k = input.len() / 8;
-    run(input, &words[..k])
+    handed
 }
 
 fn main() {

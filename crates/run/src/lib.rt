@@ -2,12 +2,17 @@
 #![tactic(auto)]
 
 ghost use Rattle.std.specs.Prelude.{◌≡◌, ◌++◌, ◌+◌, ◌*◌, ◌≤◌, min, length, drop};
-ghost use Rattle.text.specs.Words.{chances as chances_of, values as values_of};
-ghost use Rattle.stream.specs.Stream.{next_call, chance_words, value_words, check_of};
+ghost use Rattle.text.specs.Words.{values as values_of};
+ghost use Rattle.stream.specs.Stream.{next_call, value_words};
 ghost use Rattle.run.specs.Run.{opened_of, started, printed, stands_after};
 
 use machine::constants::{MACHINE_MAX, ROW_WORDS};
 use steps::Framework;
+use stream::Input;
+
+mod lent; // what a run is lent
+
+pub use lent::Lent;
 
 // The words of an output with a row for each machine.
 const OUTPUT_WORDS: usize = MACHINE_MAX * ROW_WORDS;
@@ -29,6 +34,7 @@ pub struct Rendered {
 }
 
 // The opening: its refusal or 0, and where the run stands after it.
+// a number beside a value: C's `Opened` answers both, and a framework on refusal too
 #[derive(Clone, Copy)]
 pub struct Started {
     pub refusal: u64,
@@ -37,91 +43,71 @@ pub struct Started {
 
 // Where a tape of so many draws goes on.
 fn further(at: usize, used: u64, len: usize) -> usize
-    requires { at ≤ len }
     ensures is { result ≡ min (at + used) len }
     ensures within { result ≤ len }
 {
-    if used <= (len - at) as u64 {
-        at + used as usize
-    } else {
-        len
-    }
+    at.saturating_add(used as usize).min(len)
 }
 
-// Opens the framework of accepted words.
-pub fn start(words: &[u64], values: &[f64]) -> Started
-    requires { (check_of words.now ≡ 0) × (values.now ≡ values_of (value_words words.now)) }
-    ensures is { result ≡ started words.now }
+// Opens the framework of an accepted input.
+#[tactic(auto, unfolding(crate::specs::Run::started, crate::specs::Run::opened_of))]
+pub fn start(input: &Input, values: &[f64]) -> Started
+    requires { values.now ≡ values_of (value_words input.now.words.now) }
+    ensures is { result ≡ started input.now.words.now }
     ensures within { result.stands.value ≤ length values.now }
 {
-    let l = stream::parts(words);
+    let words = input.words;
     let o = framework::opening(
         numbers::f64_of_word(stream::word(words, 0)),
         numbers::f64_of_word(stream::word(words, 1)),
         stream::word(words, 2),
-        stream::machine_table(words),
-        stream::state_table(words),
-        stream::transition_table(words),
+        input.machines(),
+        input.states(),
+        input.transitions(),
         values,
     );
-    let f = o.framework;
-    let at = further(0, o.value_used, values.len());
-    let stands = Standing {
-        framework: f,
-        next: l.calls,
-        chance: 0,
-        value: at,
-    };
     Started {
         refusal: o.refusal,
-        stands: stands,
+        stands: Standing {
+            framework: o.framework,
+            next: input.first_call(),
+            chance: 0,
+            value: further(0, o.value_used, values.len()),
+        },
     }
 }
 
 // Runs the call that comes next, as call i, and puts what it prints at the start of line.
-pub fn one_call(
-    words: &[u64],
-    chances: &[f32],
-    values: &[f64],
-    i: u64,
-    s: Standing,
-    line: &mut [u8],
-) -> Rendered
-    requires { (check_of words.now ≡ 0) × (next_call words.now s.next ≤ length words.now) × (s.chance ≤ length chances.now)
-        × (s.value ≤ length values.now) × (671 ≤ length line.old)
-        × (chances.now ≡ chances_of (chance_words words.now)) × (values.now ≡ values_of (value_words words.now)) }
-    ensures stands { result.stands ≡ stands_after words.now s }
-    ensures text { line.new ≡ printed words.now i s ++ drop result.bytes line.old }
-    ensures size { (result.bytes ≡ length (printed words.now i s)) × (result.bytes ≤ 671)
-        × (result.stands.chance ≤ length chances.now) × (result.stands.value ≤ length values.now) }
+#[tactic(auto, using(crate::proofs::Called::rows_few))]
+pub fn one_call(lent: &Lent, i: u64, s: Standing, line: &mut [u8]) -> Rendered
+    requires next { next_call lent.now.input.words.now s.next ≤ length lent.now.input.words.now }
+    requires tapes { (s.chance ≤ length lent.now.chances.now) × (s.value ≤ length lent.now.values.now) }
+    requires room { 671 ≤ length line.old }
+    ensures stands { result.stands ≡ stands_after lent.now.input.words.now s }
+    ensures text { line.new ≡ printed lent.now.input.words.now i s ++ drop result.bytes line.old }
+    ensures size { (result.bytes ≡ length (printed lent.now.input.words.now i s)) × (result.bytes ≤ 671)
+        × (result.stands.chance ≤ length lent.now.chances.now) × (result.stands.value ≤ length lent.now.values.now) }
 {
-    let at = s.next;
-    let call = stream::call_at(words, at);
-    let chance = s.chance;
-    let value = s.value;
-    let fw = s.framework;
+    let input = lent.input;
+    let call = stream::call_at(input.words, s.next);
     let mut rows = [0u64; OUTPUT_WORDS];
     let a = framework::batch(
-        fw,
-        stream::machine_table(words),
-        stream::state_table(words),
-        stream::transition_table(words),
+        s.framework,
+        input.machines(),
+        input.states(),
+        input.transitions(),
         call.time,
-        stream::events_at(words, at),
-        &chances[chance..],
-        &values[value..],
+        stream::events_at(input.words, s.next),
+        &lent.chances[s.chance..],
+        &lent.values[s.value..],
         &mut rows,
     );
     let bytes = text::call_text(line, i, a.refusal, a.actions as usize, &rows);
-    let f = a.framework;
     let stands = Standing {
-        framework: f,
+        framework: a.framework,
         next: call.next,
-        chance: further(chance, a.chance_used, chances.len()),
-        value: further(value, a.value_used, values.len()),
+        chance: further(s.chance, a.chance_used, lent.chances.len()),
+        value: further(s.value, a.value_used, lent.values.len()),
     };
-    Rendered {
-        stands: stands,
-        bytes: bytes,
-    }
+    Rendered { stands, bytes }
 }

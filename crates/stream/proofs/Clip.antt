@@ -1,34 +1,18 @@
 -- Places that stop one past the end: their sums, the parts' and the calls' places, and the words between two.
-use Prim.Native.Nat.{ℕ, ◌+◌, ◌*◌, ◌-◌, ◌/◌, ◌≤◌, ◌<◌, min}
+use Prim.Native.Nat.{ℕ, ◌+◌, ◌-◌, ◌≤◌, ◌<◌}
 use mathlib.Core.Path.{◌≡◌, sym, ap, ◌∙◌}
 use mathlib.Core.Bool.{Bool, cond}
 use mathlib.Core.List.{List}
 use borrow.Author.Tests.{eq-eqb, ne_eqb}
 use native.Mathlib.Omega.{arith}
 use native.Mathlib.Numerals.{add-one}
-use native.Mathlib.Nat.{div-lt_iff_lt-mul, le-div_iff_mul-le, mul_comm}
 use lib.ListN.{length, take, drop}
 use Rattle.stream.specs.Stream.{call_at, call_count, chance_words, check_of, end_at, layout_of, narrow, next_call, part, values_at}
 use Rattle.stream.specs.Within.{within, places_of}
 use Rattle.stream.specs.Inside.{in_order, calls_grow}
 use Rattle.stream.specs.declared.Layout.{Layout}
 
--- ---- a count that is compared by division
-
-pub too_many : {room width rows : ℕ} → 0 < width → room / width < rows → room < width * rows
-too_many {room} {width} {rows} h l = rw (mul_comm width rows) ((div-lt_iff_lt-mul h).0 l)
-
-pub room_for : {room width rows : ℕ} → 0 < width → rows ≤ room / width → width * rows ≤ room
-room_for {room} {width} {rows} h l = rw (mul_comm width rows) ((le-div_iff_mul-le h).0 l)
-
 -- ---- the parts' places
-
--- the place behind a part, from the place where the part starts
-pub behind : (L p z at r : ℕ) → at ≡ min p L → r ≡ min (at + z) L → r ≡ min (p + z) L
-behind L p z at r e f = omega arith
-
-pub behind_tape : (L p z at r : ℕ) → at ≡ min p L → r ≡ min (at + 1 * z) L → r ≡ min (p + z) L
-behind_tape L p z at r e f = omega arith
 
 abbrev pub laid : ℕ → ℕ → ℕ → ℕ → ℕ → Layout
 laid a b c d e = record { states = a; transitions = b; chances = c; values = d; calls = e }

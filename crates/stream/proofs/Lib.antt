@@ -1,3 +1,3 @@
 pub mod Clip
 pub mod Chances
-pub mod Input
+pub mod Loaded

@@ -1,7 +1,9 @@
 // The input of the printed run: its check, its parts and its calls.
 #![tactic(auto)]
 
-ghost use Rattle.std.specs.Prelude.{◌≡◌, ◌+◌, ◌*◌, ◌-◌, ◌≤◌, ◌<◌, min, length, get_or, take, drop};
+ghost use Rattle.std.specs.Prelude.{◌≡◌, ◌+◌, ◌*◌, ◌-◌, ◌≤◌, ◌<◌, ltb, MatchResult, min, length, get_or, take, drop};
+ghost use Rattle.std.specs.List.{list_all};
+ghost use Rattle.refusal.specs.Refusal.{refusal_of};
 ghost use Rattle.stream.specs.Stream.{
   call_of,
   calls_at,
@@ -13,7 +15,6 @@ ghost use Rattle.stream.specs.Stream.{
   layout_of,
   loaded,
   machine_table,
-  narrow as narrow_of,
   next_call,
   size_refusal,
   state_table,
@@ -23,6 +24,12 @@ ghost use Rattle.stream.specs.Stream.{
 ghost use Rattle.stream.specs.Within.{Ordered, places_of, within};
 
 use machine::constants::{MACHINE_WORDS, STATE_WORDS, TRANSITION_WORDS};
+use refusal::Refusal;
+
+mod input; // an accepted input
+
+pub use input::Input;
+pub use machine::state::word; // word k, or 0 past the end
 
 // The words of the header.
 const HEADER_WORDS: usize = 9;
@@ -45,29 +52,18 @@ pub struct Call {
     pub next: usize,
 }
 
-// Word k, or 0 past the end.
-pub fn word(words: &[u64], k: usize) -> u64
-    ensures { result ≡ get_or words.now k 0 }
-{
-    if k < words.len() { words[k] } else { 0 }
-}
-
 // The place behind so many rows from `at` on, in words that end at `end`: one past the end stands
 // for every place beyond it, so no count is too large.
 fn after(end: usize, at: usize, rows: u64, width: usize) -> usize
-    requires { (0 < width) × (at ≤ end + 1) × (end < 2305843009213693952) }
+    requires { end < 2305843009213693952 }
     ensures { result ≡ min (at + width * rows) (end + 1) }
 {
-    if end < at {
-        return end + 1;
-    }
-    if (end - at) / width < rows as usize {
-        return end + 1;
-    }
-    at + width * rows as usize
+    at.saturating_add(width.saturating_mul(rows as usize))
+        .min(end + 1)
 }
 
 // The parts' places, one past the end for those beyond it.
+#[tactic(auto, unfolding(crate::specs::Stream::states_at, crate::specs::Stream::transitions_at, crate::specs::Stream::chances_at, crate::specs::Stream::values_at, crate::specs::Stream::calls_at))]
 fn places(words: &[u64]) -> Layout
     ensures { result ≡ places_of words.now }
 {
@@ -98,54 +94,47 @@ fn call_end(words: &[u64], at: usize) -> usize
 }
 
 // The place behind the last call, where the first is at `first`.
+#[tactic(auto, using(crate::proofs::Clip::next_call_lem, crate::proofs::Clip::beyond, crate::proofs::Clip::all_calls), unfolding(crate::specs::Stream::call_at))]
 fn calls_end(words: &[u64], first: usize) -> usize
     requires { first ≡ within words.now (calls_at words.now) }
     ensures { result ≡ within words.now (end_at words.now) }
 {
     let calls = word(words, 8);
     let mut at = first;
-    let mut i: u64 = 0;
-    while i < calls {
+    for _ in 0..calls {
         // Beyond the end nothing comes back inside.
         if words.len() < at {
             return at;
         }
         at = call_end(words, at);
-        i += 1;
     }
     at
 }
 
 // Whether each word is below 2^32.
 fn narrow(words: &[u64]) -> bool
-    ensures { result ≡ narrow_of words.now }
+    ensures { result ≡ list_all (λ word. ltb word 4294967296) words.now }
 {
-    let mut i = 0;
-    while i < words.len() {
-        if 4294967296 <= words[i] {
-            return false;
-        }
-        i += 1;
-    }
-    true
+    words.iter().all(|word| *word < 4294967296)
 }
 
-// 0, or 21 where words are missing or left over or a chance word is 2^32 or more.
-pub fn check(words: &[u64]) -> u64
-    ensures { result ≡ check_of words.now }
+// Refuses words where some are missing or left over, or a chance word is 2^32 or more.
+pub fn check(words: &[u64]) -> Result<(), Refusal>
+    ensures { refusal_of result ≡ check_of words.now }
 {
     let l = places(words);
     let end = calls_end(words, l.calls);
     if end != words.len() {
-        return 21;
+        return Err(Refusal::BadInput);
     }
     if narrow(between(words, l.chances, l.values)) {
-        return 0;
+        return Ok(());
     }
-    21
+    Err(Refusal::BadInput)
 }
 
 // Where the parts of accepted words start.
+#[tactic(auto, using(crate::proofs::Clip::exact, crate::specs::Inside::accepted, crate::specs::Inside::parts_inside))]
 pub fn parts(words: &[u64]) -> Layout
     requires { check_of words.now ≡ 0 }
     ensures is { result ≡ layout_of words.now }
@@ -154,6 +143,7 @@ pub fn parts(words: &[u64]) -> Layout
     places(words)
 }
 
+// The words from one place up to another.
 fn between(words: &[u64], from: usize, to: usize) -> &[u64]
     requires { (from ≤ to) × (to ≤ length words.now) }
     ensures { result.now ≡ take (to - from) (drop from words.now) }
@@ -161,45 +151,40 @@ fn between(words: &[u64], from: usize, to: usize) -> &[u64]
     &words[from..to]
 }
 
-// The parts of accepted words.
+// The parts of accepted words, each as the `Input` of these words has it.
 pub fn machine_table(words: &[u64]) -> &[u64]
     requires { check_of words.now ≡ 0 }
     ensures { result.now ≡ machine_table words.now }
 {
-    let l = parts(words);
-    between(words, HEADER_WORDS, l.states)
+    Input::accepted(words).machines()
 }
 
 pub fn state_table(words: &[u64]) -> &[u64]
     requires { check_of words.now ≡ 0 }
     ensures { result.now ≡ state_table words.now }
 {
-    let l = parts(words);
-    between(words, l.states, l.transitions)
+    Input::accepted(words).states()
 }
 
 pub fn transition_table(words: &[u64]) -> &[u64]
     requires { check_of words.now ≡ 0 }
     ensures { result.now ≡ transition_table words.now }
 {
-    let l = parts(words);
-    between(words, l.transitions, l.chances)
+    Input::accepted(words).transitions()
 }
 
 pub fn chance_words(words: &[u64]) -> &[u64]
     requires { check_of words.now ≡ 0 }
     ensures { result.now ≡ chance_words words.now }
 {
-    let l = parts(words);
-    between(words, l.chances, l.values)
+    Input::accepted(words).chances()
 }
 
 pub fn value_words(words: &[u64]) -> &[u64]
     requires { check_of words.now ≡ 0 }
     ensures { result.now ≡ value_words words.now }
 {
-    let l = parts(words);
-    between(words, l.values, l.calls)
+    Input::accepted(words).values()
 }
 
 // The call at a place that lies inside the words (`call_inside` in specs/Inside.antt).
@@ -217,6 +202,7 @@ pub fn call_at(words: &[u64], at: usize) -> Call
 }
 
 // Its event words.
+#[tactic(auto, unfolding(crate::specs::Stream::events_of))]
 pub fn events_at(words: &[u64], at: usize) -> &[u64]
     requires { next_call words.now at ≤ length words.now }
     ensures { result.now ≡ events_of words.now at }
@@ -225,29 +211,29 @@ pub fn events_at(words: &[u64], at: usize) -> &[u64]
     between(words, call.events, call.next)
 }
 
-// 21 where an input of so many bytes is more than 8,192 words or cuts the last one, else 0.
-fn size_refusal(bytes: usize) -> u64
-    ensures { result ≡ size_refusal bytes }
+// Refuses an input of so many bytes where they are more than 8,192 words or cut the last one.
+#[tactic(auto, unfolding(crate::specs::Stream::size_refusal))]
+fn check_size(bytes: usize) -> Result<(), Refusal>
+    ensures is { refusal_of result ≡ size_refusal bytes }
+    ensures told { MatchResult result (λ ok. bytes ≤ 65536) (λ refusal. size_refusal bytes ≡ 21) }
 {
     if 65536 < bytes {
-        return 21;
+        return Err(Refusal::BadInput);
     }
     if bytes % 8 == 0 {
-        return 0;
+        return Ok(());
     }
-    21
+    Err(Refusal::BadInput)
 }
 
-// The input's words at the start of words, and what the input is refused as, or 0. An input whose
-// size is refused leaves words as they are.
-pub fn load(bytes: &[u8], words: &mut [u64]) -> u64
+// The input's words at the start of words, and what the input is refused as. An input whose size is
+// refused leaves words as they are.
+pub fn load(bytes: &[u8], words: &mut [u64]) -> Result<(), Refusal>
     requires { 8192 ≤ length words.old }
-    ensures { (result ≡ input_refusal bytes.now)
-        × (words.new ≡ loaded bytes.now words.old) }
+    ensures answer { refusal_of result ≡ input_refusal bytes.now }
+    ensures words { words.new ≡ loaded bytes.now words.old }
 {
-    if size_refusal(bytes.len()) != 0 {
-        return 21;
-    }
+    check_size(bytes.len())?;
     let n = bytes.len() / 8;
     text::put_words(bytes, n, words);
     check(&words[..n])

@@ -66,16 +66,16 @@ module _ (a b c : ℕ) (rows o : List ℕ) where
   L = call_line a b c
 
   -- the call's line and the lines of the first i rows stand
-  abbrev pub Lined : ℕ → ℕ → List ℕ → Type 0
-  Lined i at out = Upto o (L ++ row_lines i rows) at out
+  abbrev pub Lined : ℕ → List ℕ → Type 0
+  Lined i out = Upto o (L ++ row_lines i rows) (15 + 41 * i) out
 
   -- a row more
-  pub one_row : (out out' : List ℕ) (at i : ℕ) → Lined i at out → out' ≡ row_in at rows i out
-      → Lined (i + 1) (at + 41) out'
+  pub one_row : (out out' : List ℕ) (i : ℕ) → Lined i out → out' ≡ row_in (15 + 41 * i) rows i out → Lined (i + 1) out'
   unfolding row_lines row_in
-  one_row out out' at i u y =
+  one_row out out' i u y =
       let w : List ℕ = row_line (drop (row_words * i) rows) in
-      rw (add-one, ← append_assoc L (row_lines i rows) w)
+      let e : 15 + 41 * (i + 1) ≡ 15 + 41 * i + 41 = omega arith in
+      rw (e, add-one, ← append_assoc L (row_lines i rows) w)
       (more w 41 (length-row_line (drop (row_words * i) rows)) u y)
 
 module _ (a b c : ℕ) (rows o o₁ : List ℕ) (e : o₁ ≡ call_line a b c ++ drop 15 o) where
@@ -91,7 +91,7 @@ module _ (a b c : ℕ) (rows o o₁ : List ℕ) (e : o₁ ≡ call_line a b c ++
       ∙ ap (λ (k : ℕ). drop k o) q
 
   -- no row yet
-  pub no_row : Lined a b c rows o₁ 0 15 o₁
+  pub no_row : Lined a b c rows o₁ 0 o₁
   unfolding row_lines
   no_row =
       record {
@@ -100,7 +100,7 @@ module _ (a b c : ℕ) (rows o o₁ : List ℕ) (e : o₁ ≡ call_line a b c ++
       }
 
   -- all rows
-  pub all_rows_lem : (out : List ℕ) (at i : ℕ) → 15 ≤ at → i ≡ c → Lined a b c rows o₁ i at out
-      → out ≡ call_text a b c rows ++ drop at o
+  pub all_rows_lem : (out : List ℕ) (i : ℕ) → i ≡ c → Lined a b c rows o₁ i out
+      → out ≡ call_text a b c rows ++ drop (15 + 41 * c) o
   unfolding call_text
-  all_rows_lem out at i h z u = rw (z, behind at h) at u.is
+  all_rows_lem out i z u = rw (z, behind (15 + 41 * c) (omega arith)) at u.is

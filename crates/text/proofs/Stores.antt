@@ -1,26 +1,10 @@
--- One word more, and one float more on a tape.
-use Prim.Native.Nat.{ℕ, zero, suc, ◌+◌, ◌*◌, ◌≤◌, ◌<◌}
-use mathlib.Core.Path.{◌≡◌, refl, sym, ap, ◌∙◌}
-use mathlib.Core.List.{List, [], ◌∷◌, ◌++◌, append_assoc, map, map-append}
-use native.Mathlib.Numerals.{add-one}
-use native.Mathlib.Omega.{arith}
-use lib.Ieee.{Float, nan}
-use lib.ListN.{length, take, drop, set, get_or, length-append, length-map}
-use lib.Seq.{drop-cons, set_at, take-suc, length-take-le}
-use Rattle.text.specs.Words.{pair_at, word_at, words_to}
-
--- a word of its four pairs of bytes
-pub of_pairs : (b : List ℕ) (at p q r s : ℕ) → p ≡ pair_at b (at + 6) → q ≡ pair_at b (at + 4)
-    → r ≡ pair_at b (at + 2)
-    → s ≡ pair_at b at
-    → (p * 65536 + q) * 4294967296 + (r * 65536 + s) ≡ word_at b at
-of_pairs b at p q r s e₁ e₂ e₃ e₄ =
-    let i₁ : at + 6 + 1 ≡ at + 7 = omega arith in
-    let i₂ : at + 4 + 1 ≡ at + 5 = omega arith in
-    let i₃ : at + 2 + 1 ≡ at + 3 = omega arith in
-    let f₁ : p ≡ get_or b (at + 7) 0 * 256 + get_or b (at + 6) 0 = rw i₁ at e₁ in
-    let f₂ : q ≡ get_or b (at + 5) 0 * 256 + get_or b (at + 4) 0 = rw i₂ at e₂ in
-    let f₃ : r ≡ get_or b (at + 3) 0 * 256 + get_or b (at + 2) 0 = rw i₃ at e₃ in omega arith
+-- The words that bytes spell, and what is made of one item more of a list.
+use Rattle.std.proofs.Common.{ℕ, zero, suc, ◌+◌, ◌*◌, ◌≤◌, ◌<◌, ◌≡◌, refl, sym, ap, ◌∙◌, List, [], ◌∷◌, ◌++◌, append_assoc, map, add-one, arith, lit<, length, take, drop, set, get_or, length-append, drop-cons}
+use Rattle.std.proofs.lemmas.List.{get_or-take, get_or-drop, length-map, map-append}
+use Rattle.std.specs.Int.{w64, from_le_bytes}
+use Rattle.std.specs.Simd.{first_chunks}
+use lib.Seq.{set_at, take-suc, length-take-le, drop-drop}
+use Rattle.text.specs.Words.{word_at, words_to}
 
 -- the words are as many as they say
 pub length-words : (b : List ℕ) (k : ℕ) → length (words_to b k) ≡ k
@@ -28,22 +12,54 @@ unfolding words_to
 length-words b zero = refl
 length-words b (suc k) = length-append (words_to b k) (word_at b (8 * k) ∷ []) ∙ omega (arith, length-words b k)
 
-pub worded : (b o out : List ℕ) (i x : ℕ) → i < length o → out ≡ words_to b i ++ drop i o → x ≡ word_at b (8 * i)
-    → set out i x ≡ words_to b (i + 1) ++ drop (i + 1) o
-unfolding words_to
-worded b o out i x h e q =
-    rw (add-one, e, drop-cons o i 0, set_at (words_to b i) (get_or o i 0) (drop (suc i) o) x i (length-words b i), q)
-    (sym (append_assoc (words_to b i) (word_at b (8 * i) ∷ []) (drop (suc i) o)))
+-- a word is what its eight bytes spell, the low byte first
+word_is : (b : List ℕ) (at : ℕ) → from_le_bytes w64 (take 8 (drop at b)) ≡ word_at b at
+word_is b at =
+    let L : List ℕ = take 8 (drop at b) in
+    let s : from_le_bytes w64 L
+    ≡ get_or L 0 0 + get_or L 1 0 * 256 + get_or L 2 0 * 65536 + get_or L 3 0 * 16777216 + get_or L 4 0 * 4294967296
+    + get_or L 5 0 * 1099511627776
+    + get_or L 6 0 * 281474976710656
+    + get_or L 7 0 * 72057594037927936 = refl in
+    let z : at + 0 ≡ at = omega arith in
+    let g : (i : ℕ) → i < 8 → get_or L i 0 ≡ get_or b (at + i) 0 =
+    λ (i : ℕ) (h : i < 8). get_or-take 8 (drop at b) i 0 h ∙ get_or-drop at b i 0 in
+    let g0 : get_or L 0 0 ≡ get_or b at 0 = rw z at (g 0 (lit< tt)) in
+    s ∙ omega (arith, g0, g 1 (lit< tt), g 2 (lit< tt), g 3 (lit< tt), g 4 (lit< tt), g 5 (lit< tt), g 6 (lit< tt), g 7 (lit< tt))
 
-module _ (f : ℕ → Float) (ws : List ℕ) (o out : List Float) (i : ℕ) where
-  pub taped : (x : Float) → i < length ws → length ws ≤ length o → out ≡ map f (take i ws) ++ drop i o
-      → x ≡ f (get_or ws i 0)
-      → set out i x ≡ map f (take (i + 1) ws) ++ drop (i + 1) o
-  taped x h g e q =
-      let T : List Float = map f (take i ws) in
-      let n : length T ≡ i = length-map (take i ws) f ∙ length-take-le i ws (omega arith) in
-      let s : map f (take (suc i) ws) ≡ T ++ (f (get_or ws i 0) ∷ []) =
-      ap (map f) (take-suc ws i 0 h) ∙ map-append f (take i ws) (get_or ws i 0 ∷ []) in
+-- what is made of one chunk more
+one_chunk : {A : Type 0} (f : List ℕ → A) (k : ℕ) (b : List ℕ)
+    → map f (first_chunks 8 (suc k) b) ≡ map f (first_chunks 8 k b) ++ (f (take 8 (drop (8 * k) b)) ∷ [])
+one_chunk f zero b = refl
+one_chunk f (suc k) b =
+    let e : 8 + 8 * k ≡ 8 * suc k = omega arith in
+    rw (one_chunk f k (drop 8 b), drop-drop (8 * k) 8 b, e)
+
+chunk_words : (b : List ℕ) (k : ℕ) → map (from_le_bytes w64) (first_chunks 8 k b) ≡ words_to b k
+unfolding words_to
+chunk_words b zero = refl
+chunk_words b (suc k) = rw (one_chunk (from_le_bytes w64) k b, chunk_words b k, word_is b (8 * k))
+
+take_chunks : (n k : ℕ) (b : List ℕ) → k ≤ n → take k (first_chunks 8 n b) ≡ first_chunks 8 k b
+take_chunks n zero b h = refl
+take_chunks zero (suc k) b h = absurd (omega (arith, h))
+take_chunks (suc n) (suc k) b h = rw (take_chunks n k (drop 8 b) (omega (arith, h)))
+
+-- the first k chunks of n spell the first k words
+pub words_of_chunks : (n k : ℕ) (b : List ℕ) → k ≤ n → map (from_le_bytes w64) (take k (first_chunks 8 n b)) ≡ words_to b k
+words_of_chunks n k b h = ap (map (from_le_bytes w64)) (take_chunks n k b h) ∙ chunk_words b k
+
+module _ {A B : Type 0} (f : A → B) (xs : List A) (o out : List B) (i : ℕ) where
+  -- what is made of one item more
+  pub put_more : (x : A) (y : B) → i < length xs → length xs ≤ length o → out ≡ map f (take i xs) ++ drop i o
+      → x ≡ get_or xs i x
+      → y ≡ f x
+      → set out i y ≡ map f (take (i + 1) xs) ++ drop (i + 1) o
+  put_more x y h g e p q =
+      let T : List B = map f (take i xs) in
+      let n : length T ≡ i = length-map (take i xs) f ∙ length-take-le i xs (omega arith) in
+      let s : map f (take (suc i) xs) ≡ T ++ (f (get_or xs i x) ∷ []) =
+      ap (map f) (take-suc xs i x h) ∙ map-append f (take i xs) (get_or xs i x ∷ []) in
       let b : i < length o = omega arith in
-      rw (add-one, s, e, drop-cons o i nan b, set_at T (get_or o i nan) (drop (suc i) o) x i n, q)
-      (sym (append_assoc T (f (get_or ws i 0) ∷ []) (drop (suc i) o)))
+      rw (add-one, s, e, drop-cons o i y b, set_at T (get_or o i y) (drop (suc i) o) y i n, ← p, q)
+      (sym (append_assoc T (f x ∷ []) (drop (suc i) o)))

@@ -1,14 +1,15 @@
 // The text of the printed run on lent bytes, and words and floats out of its input.
 #![tactic(auto)]
 
-ghost use Rattle.std.specs.Prelude.{◌≡◌, ◌++◌, ◌+◌, ◌*◌, ◌≤◌, ◌<◌, length, drop};
+ghost use Rattle.std.specs.Prelude.{◌≡◌, ◌++◌, ◌+◌, ◌*◌, ◌≤◌, length, map, drop};
 ghost use Rattle.machine.specs.Constants.{row_words};
 ghost use Rattle.text.specs.Printed.{call_line, row_line, row_in, call_text};
-ghost use Rattle.text.specs.Words.{pair_at, word_at, words_to, chances, values};
+ghost use Rattle.text.specs.Words.{words_to, chances, values};
 
 use machine::constants::ROW_WORDS;
 
 // A call's line: call, refusal and actions in 6, 4 and 4 columns, and a line feed.
+#[tactic(auto, using(crate::proofs::Lines::call_lined))]
 fn call_line(line: &mut [u8], call: u64, refusal: u64, actions: u64)
     requires { 15 ≤ length line.old }
     ensures { line.new
@@ -21,6 +22,7 @@ fn call_line(line: &mut [u8], call: u64, refusal: u64, actions: u64)
 }
 
 // A row's line: its six words in 4, 4, 4, 4, 12 and 12 columns, and a line feed.
+#[tactic(auto, using(crate::proofs::Lines::row_lined))]
 fn row_line(line: &mut [u8], row: &[u64])
     requires { (41 ≤ length line.old) × (row_words ≤ length row.now) }
     ensures { line.new
@@ -36,6 +38,7 @@ fn row_line(line: &mut [u8], row: &[u64])
 }
 
 // The line of row i, from `at` on.
+#[tactic(auto, using(crate::proofs::Lines::rowed))]
 fn put_row(out: &mut [u8], at: usize, rows: &[u64], i: usize)
     requires { (at + 41 ≤ length out.old) × (row_words * i + row_words ≤ length rows.now) }
     ensures { out.new ≡ row_in at rows.now i out.old }
@@ -45,6 +48,7 @@ fn put_row(out: &mut [u8], at: usize, rows: &[u64], i: usize)
 }
 
 // What a call prints: its line, and the lines of its rows. Answers how many bytes that is.
+// actions beside rows: a caller may lend more rows than are printed
 pub fn call_text(out: &mut [u8], call: u64, refusal: u64, actions: usize, rows: &[u64]) -> usize
     requires { (15 + 41 * actions ≤ length out.old) × (row_words * actions ≤ length rows.now) }
     ensures { (result ≡ 15 + 41 * actions)
@@ -52,50 +56,34 @@ pub fn call_text(out: &mut [u8], call: u64, refusal: u64, actions: usize, rows: 
         ≡ call_text call refusal actions rows.now ++ drop result out.old) }
 {
     call_line(out, call, refusal, actions as u64);
-    let mut at: usize = 15;
-    let mut i: usize = 0;
-    while i < actions {
-        put_row(out, at, rows, i);
-        at += 41;
-        i += 1;
+    for i in 0..actions {
+        put_row(out, 15 + 41 * i, rows, i);
     }
-    at
+    15 + 41 * actions
 }
 
-fn wide(b: u8) -> u64
-    ensures { (result ≡ b) × (result < 256) }
+// Puts what `convert` makes of each item at the start of out.
+#[tactic(auto, using(crate::proofs::Stores::put_more))]
+fn put<A: Copy, T: Copy, F: Fn(A) -> T>(items: &[A], out: &mut [T], convert: F)
+    requires room { length items.now ≤ length out.old }
+    requires callable { F.IsAlwaysCallable convert }
+    ensures { (of : A → T) → ((item : A) (made : T) → F.post convert item made → made ≡ of item) → out.new
+        ≡ map of items.now ++ drop (length items.now) out.old }
 {
-    b as u64
-}
-
-// The number that the two bytes from `at` on spell, the low byte first.
-fn pair_at(b: &[u8], at: usize) -> u64
-    requires { at + 2 ≤ length b.now }
-    ensures { (result ≡ pair_at b.now at) × (result < 65536) }
-{
-    wide(b[at + 1]) * 256 + wide(b[at])
-}
-
-// The word whose eight bytes start at `at`, the low byte first.
-fn word_at(b: &[u8], at: usize) -> u64
-    requires { at + 8 ≤ length b.now }
-    ensures { result ≡ word_at b.now at }
-{
-    let high = pair_at(b, at + 6) * 65536 + pair_at(b, at + 4);
-    let low = pair_at(b, at + 2) * 65536 + pair_at(b, at);
-    high * 4294967296 + low
+    // by index: a proof knows nothing of what a loop over `iter_mut().zip(..)` wrote
+    for (i, item) in items.iter().enumerate() {
+        out[i] = convert(*item);
+    }
 }
 
 // Puts the first k words of b at the start of out.
+// k beside the slices: a caller may lend longer ones than k words take
 pub fn put_words(b: &[u8], k: usize, out: &mut [u64])
     requires { (8 * k ≤ length b.now) × (k ≤ length out.old) }
     ensures { out.new ≡ words_to b.now k ++ drop k out.old }
 {
-    let mut i = 0;
-    while i < k {
-        out[i] = word_at(b, 8 * i);
-        i += 1;
-    }
+    let (words, _) = b.as_chunks::<8>();
+    put(&words[..k], out, u64::from_le_bytes);
 }
 
 // Puts the chance draws of all of words at the start of out.
@@ -104,11 +92,7 @@ pub fn put_chances(words: &[u64], out: &mut [f32])
     ensures { out.new
         ≡ chances words.now ++ drop (length words.now) out.old }
 {
-    let mut i = 0;
-    while i < words.len() {
-        out[i] = numbers::f32_of_word(words[i]);
-        i += 1;
-    }
+    put(words, out, numbers::f32_of_word);
 }
 
 // Puts the value draws of all of words at the start of out.
@@ -117,9 +101,5 @@ pub fn put_values(words: &[u64], out: &mut [f64])
     ensures { out.new
         ≡ values words.now ++ drop (length words.now) out.old }
 {
-    let mut i = 0;
-    while i < words.len() {
-        out[i] = numbers::f64_of_word(words[i]);
-        i += 1;
-    }
+    put(words, out, numbers::f64_of_word);
 }

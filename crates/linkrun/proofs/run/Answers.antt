@@ -1,72 +1,28 @@
--- `linkrun::run` meets its contract: the tapes are the floats of the input's draw words.
-use native.Mathlib.Omega.{arith}
-use mathlib.Core.Path.{ap, ◌∙◌}
-use mathlib.Core.List.{map}
-use lib.ListN.{length, take, length-take, length-map}
-use lib.Seq.{take_at}
-use Rattle.text.specs.Words.{chance_of, chances, value_of, values}
-use Rattle.stream.specs.Inside.{tapes_inside}
+-- `linkrun::run` meets its contract: its line is the first part of the run's text, and the calls print the rest.
+use Rattle.std.proofs.Common.{◌∙◌, [], arith}
+use Rattle.linkrun.proofs.Parts.{first_is, behind_first, opens, opens_refused, opens_accepted, at_first}
 use Rattle.linkrun.proofs.run.Goals as goal
 
-pub put_chances-requires : goal.put_chances-requires
-put_chances-requires c =
-    let v = c.value_words-v in
-    let w = c.chance_words-c in
-    let p = c in
-    let few = tapes_inside p.args.words.now p.requires.1 in
-    omega (arith, few, ap length w.ensures, p.requires.2)
+pub first_line-requires-clause-next : goal.first_line-requires-clause-next
+first_line-requires-clause-next c =
+    let o = c.start-started in
+    first_is o.result.refusal _ _ (c.requires.text ∙ opens c.args.input.words.now o.result o.ensures.is)
 
-pub put_values-requires : goal.put_values-requires
-put_values-requires c =
-    let v = c.value_words-v in
-    let w = c.chance_words-c in
-    let p = c in
-    let few = tapes_inside p.args.words.now p.requires.1 in
-    omega (arith, few, ap length v.ensures, p.requires.2)
+pub calls-requires-clause-stands : goal.calls-requires-clause-stands
+calls-requires-clause-stands c =
+    let o = c.start-started in
+    let s = at_first c.args.input.words.now o.result o.ensures.is in
+    (s.0, omega (arith, s.1), o.ensures.within)
 
-pub slice_bounds-chances-end : goal.slice_bounds-chances-end
-slice_bounds-chances-end c =
-    let v = c.value_words-v in
-    let w = c.chance_words-c in
-    let p = c in
-    let few = tapes_inside p.args.words.now p.requires.1 in
-    omega (arith, few, ap length w.ensures, p.requires.2, c.put_chances.auto.out)
+pub calls-requires-clause-left : goal.calls-requires-clause-left
+calls-requires-clause-left c =
+    let o = c.start-started in
+    let h = c.first_line.ensures in
+    let left = c.requires.text ∙ opens_accepted c.args.input.words.now o.result o.ensures.is c.if-started-eq0.true in
+    (omega (arith, h.further), rw h.same (behind_first o.result.refusal _ _ left _ h.further))
 
-pub slice_bounds-opening-end : goal.slice_bounds-opening-end
-slice_bounds-opening-end c =
-    let v = c.value_words-v in
-    let w = c.chance_words-c in
-    let p = c in
-    let few = tapes_inside p.args.words.now p.requires.1 in
-    simp length-take (omega (arith, few, ap length w.ensures, p.requires.2, c.put_chances.auto.out))
-
-pub slice_bounds-values-end : goal.slice_bounds-values-end
-slice_bounds-values-end c =
-    let v = c.value_words-v in
-    let w = c.chance_words-c in
-    let p = c in
-    let few = tapes_inside p.args.words.now p.requires.1 in
-    omega (arith, few, ap length v.ensures, p.requires.2, c.put_values.auto.out)
-
-pub slice_bounds-opening-end-2 : goal.slice_bounds-opening-end-2
-slice_bounds-opening-end-2 c =
-    let v = c.value_words-v in
-    let w = c.chance_words-c in
-    let p = c in
-    let few = tapes_inside p.args.words.now p.requires.1 in
-    simp length-take (omega (arith, few, ap length v.ensures, p.requires.2, c.put_values.auto.out))
-
-pub opening-requires : goal.opening-requires
-opening-requires c =
-    let v = c.value_words-v in
-    let w = c.chance_words-c in
-    let p = c in
-    let few = tapes_inside p.args.words.now p.requires.1 in
-    let k = w.result.now in
-    let n = v.result.now in (
-      p.requires.0,
-      p.requires.1,
-      p.requires.2,
-      ap (take (length k)) c.put_chances.ensures ∙ take_at (map chance_of k) _ (length k) (length-map k chance_of) ∙ ap chances w.ensures,
-      ap (take (length n)) c.put_values.ensures ∙ take_at (map value_of n) _ (length n) (length-map n value_of) ∙ ap values v.ensures,
-    )
+pub returns-else-started-eq0 : goal.returns-else-started-eq0
+returns-else-started-eq0 c =
+    let o = c.start-started in
+    let left = c.requires.text ∙ opens_refused c.args.input.words.now o.result o.ensures.is c.if-started-eq0.false in
+    behind_first o.result.refusal [] _ left _ c.first_line.ensures.further

@@ -7,7 +7,7 @@ use native.Mathlib.Omega.{arith}
 use lib.Dec.{eqb, ltb}
 use lib.ListN.{length, take, drop}
 use lib.Seq.{take_at}
-use borrow.Author.Tests.{ltb-false, eqb-true, eq-eqb, ne_eqb}
+use borrow.Author.Tests.{ltb-false, eqb-true, eq-eqb}
 use Rattle.text.specs.Words.{words_to}
 use Rattle.text.proofs.Stores.{length-words}
 use Rattle.stream.specs.Stream.{size_refusal, input_words, input_refusal, loaded, check_of}
@@ -21,9 +21,10 @@ size_fits n h = by_size (ltb 65536 n) refl (cond (eqb (n % 8) 0) 0 21) h
     by_size false e m z = ltb-false _ _ e
 
 module _ (bs ws : List ℕ) where
-  pub size_refused : (size_refusal (length bs) ≡ 0 → ⊥) → (21 ≡ input_refusal bs) × (ws ≡ loaded bs ws)
+  pub size_refused : (r : ℕ) → r ≡ size_refusal (length bs) → size_refusal (length bs) ≡ 21
+      → (r ≡ input_refusal bs) × (ws ≡ loaded bs ws)
   unfolding input_refusal loaded
-  size_refused h = let e = ne_eqb (size_refusal (length bs)) 0 h in (rw e, rw e)
+  size_refused r e h = (e ∙ h ∙ rw h, rw h)
 
   pub size_taken : (out : List ℕ) (r : ℕ) → size_refusal (length bs) ≡ 0
       → out ≡ words_to bs (length bs / 8) ++ drop (length bs / 8) ws
