@@ -51,9 +51,9 @@ fn put_state(out: &mut [u64], fw: &Framework, machines: usize)
 {
     out[0] = (OWN_WORDS + RUNTIME_WORDS * machines) as u64;
     out[1..1 + OWN_WORDS].copy_from_slice(&own_words(fw));
-    for m in 0..machines {
-        let at = 1 + OWN_WORDS + RUNTIME_WORDS * m;
-        out[at..at + RUNTIME_WORDS].copy_from_slice(&runtime_words(&fw.runtime[m]));
+    let rows = out[1 + OWN_WORDS..].chunks_exact_mut(RUNTIME_WORDS);
+    for (r, row) in fw.runtime[..machines].iter().zip(rows) {
+        row.copy_from_slice(&runtime_words(r));
     }
 }
 

@@ -140,12 +140,7 @@ fn put_state_beyond(fw: &mut Framework, machines: &[u64]) {
 }
 
 // What a batch with this damage differs in from one that is refused so.
-fn batch(
-    damage: Damage,
-    fw: &Framework,
-    tables: Tables,
-    refusal: u64,
-) -> Result<(), Difference> {
+fn batch(damage: Damage, fw: &Framework, tables: Tables, refusal: u64) -> Result<(), Difference> {
     let damaged = Batch {
         framework: damage.framework(fw, tables.machines),
         tables: damage.tables(tables),

@@ -86,11 +86,7 @@ fn replay_run(
 
 // An input with its tapes as floats.
 #[tactic(auto, using(stream::specs::Inside::tapes_inside))]
-fn replay_input(
-    tally: &mut Tally,
-    input: Accepted,
-    theirs: &[u64; ANSWER],
-) -> Result<(), BrokenAt>
+fn replay_input(tally: &mut Tally, input: Accepted, theirs: &[u64; ANSWER]) -> Result<(), BrokenAt>
     requires { length input.words.now ≤ INPUT }
 {
     let chance_words = stream::chance_words(input.words);

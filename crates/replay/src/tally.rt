@@ -3,7 +3,7 @@ use super::damage::Damage;
 use corpus::ANSWER;
 
 // What a call differed in.
-#[derive(Clone, Copy, PartialEq, Eq)]
+#[derive(Clone, Copy)]
 pub enum Difference {
     // a word of its answer: the first place (answer.rt) at which they differ
     Word(usize),

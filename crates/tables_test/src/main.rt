@@ -151,9 +151,9 @@ fn machines() -> [u64; WORDS] {
     w[MAX_PADDING_FRAC] = HALF;
     w[MAX_BLOCKING_FRAC] = HALF;
     w[NUM_STATES] = 2;
-    for i in 1..MACHINE_MAX + 1 {
-        w[i * MACHINE_WORDS + FIRST_STATE] = 2;
-        w[i * MACHINE_WORDS + NUM_STATES] = 1;
+    for row in w[MACHINE_WORDS..MACHINES_MORE].chunks_exact_mut(MACHINE_WORDS) {
+        row[FIRST_STATE] = 2;
+        row[NUM_STATES] = 1;
     }
     w
 }
@@ -282,9 +282,9 @@ fn long_states(count: u64) -> [u64; LONG_STATES] {
 // To the first 40 states.
 fn long_row() -> [u64; LONG_ROW] {
     let mut t = [0; LONG_ROW];
-    for i in 0..TARGETS {
-        t[i * TRANSITION_WORDS] = i as u64;
-        t[i * TRANSITION_WORDS + 1] = 0x3c80_0000;
+    for (i, row) in t.chunks_exact_mut(TRANSITION_WORDS).enumerate() {
+        row[0] = i as u64;
+        row[1] = 0x3c80_0000;
     }
     t
 }
