@@ -9,7 +9,7 @@ use machine::constants::{MACHINE_MAX, ROW_WORDS};
 // The words of the longest input.
 pub const INPUT: usize = 8192;
 
-// The one kind of case there is: an input of linkrun.
+// The one kind of case there is, a number as the corpus has it: an input of linkrun.
 const KIND: u64 = 1;
 
 // The words of an output with a row for each machine.

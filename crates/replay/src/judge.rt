@@ -1,4 +1,5 @@
-// What an answer differs in from the recorded one, or from what a refused call must leave.
+// What an answer differs in from the recorded one, or from what a refused call must leave. A refusal is a
+// number here: it is a word of the recorded answers.
 ghost use Rattle.std.specs.Prelude.{◌≤◌};
 
 use super::answer::{at_most_max, difference, words};
