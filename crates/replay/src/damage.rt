@@ -7,6 +7,7 @@ use super::judge::{MARK, refused_call, refused_opening};
 use super::tally::{Difference, Tally};
 use corpus::OUTPUT_WORDS;
 use machine::constants::{MACHINE_WORDS, NUM_STATES, ROW_WORDS};
+use machine::event::NORMAL_SENT;
 use machine::tables::Tables;
 use refusal::Refusal;
 use steps::{Framework, Opened};
@@ -104,9 +105,9 @@ impl Damage {
     // The words of an event NormalSent, half of one behind it, or one of kind 10.
     fn events(self) -> &'static [u64] {
         match self {
-            Damage::HalfEvent => &[3, 0, 10],
-            Damage::KindTen => &[3, 0, 10, 0],
-            _ => &[3, 0],
+            Damage::HalfEvent => &[NORMAL_SENT, 0, 10],
+            Damage::KindTen => &[NORMAL_SENT, 0, 10, 0],
+            _ => &[NORMAL_SENT, 0],
         }
     }
 

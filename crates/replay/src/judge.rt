@@ -51,6 +51,11 @@ fn start_limits(fw: &Framework, tables: Tables) -> bool {
         .all(|(r, machine)| r.state_limit == 0 || starts_with_action(machine, tables.states))
 }
 
+// What must hold, or the call differs in this.
+fn must(holds: bool, difference: Difference) -> Result<(), Difference> {
+    if holds { Ok(()) } else { Err(difference) }
+}
+
 fn same_words(ours: &[u64; ANSWER], theirs: &[u64; ANSWER]) -> Result<(), Difference> {
     match difference(ours, theirs) {
         None => Ok(()),
@@ -66,11 +71,7 @@ fn recorded(
 ) -> Result<(), Difference> {
     let fw = &a.framework;
     same_words(&words(a, rows, at_most_max(fw.machines)), theirs)?;
-    if ended_as_it_is(fw) {
-        Ok(())
-    } else {
-        Err(Difference::Ended)
-    }
+    must(ended_as_it_is(fw), Difference::Ended)
 }
 
 // An opening's answer as that of a call without actions.
@@ -89,11 +90,7 @@ pub fn opening(o: &Opened, theirs: &[u64; ANSWER], tables: Tables) -> Result<(),
     if o.refusal != 0 {
         return refused_opening(o.refusal, o);
     }
-    if start_limits(&o.framework, tables) {
-        Ok(())
-    } else {
-        Err(Difference::Limit)
-    }
+    must(start_limits(&o.framework, tables), Difference::Limit)
 }
 
 // Of a call on `before`, whose output was all marks.
@@ -107,11 +104,8 @@ pub fn call(
     if a.refusal != 0 {
         return refused_call(a.refusal, before, a, out);
     }
-    if untouched(out, ROW_WORDS * at_most_max(a.actions)) {
-        Ok(())
-    } else {
-        Err(Difference::Output)
-    }
+    let rows = ROW_WORDS * at_most_max(a.actions);
+    must(untouched(out, rows), Difference::Output)
 }
 
 // Of a call that must be refused so: nothing is drawn, and the framework is as it was in all it
@@ -129,12 +123,8 @@ pub fn refused_call(
         value_used: 0,
         framework: *before,
     };
-    if a.framework.ended != before.ended {
-        return Err(Difference::Ended);
-    }
-    if !untouched(out, 0) {
-        return Err(Difference::Output);
-    }
+    must(a.framework.ended == before.ended, Difference::Ended)?;
+    must(untouched(out, 0), Difference::Output)?;
     same_words(
         &words(a, out, MACHINE_MAX),
         &words(&theirs, out, MACHINE_MAX),
@@ -151,9 +141,7 @@ fn nothing_but(refusal: u64, state: usize) -> [u64; ANSWER] {
 
 // Of an opening that must be refused so: its framework is all zero.
 pub fn refused_opening(refusal: u64, o: &Opened) -> Result<(), Difference> {
-    if o.framework.ended != 0 {
-        return Err(Difference::Ended);
-    }
+    must(o.framework.ended == 0, Difference::Ended)?;
     let ours = words(&as_answer(o), &[0u64; OUTPUT_WORDS], MACHINE_MAX);
     same_words(&ours, &nothing_but(refusal, STATE_MOST))
 }
