@@ -2,14 +2,14 @@
 // reference/corpus/README.md.
 #![tactic(auto)]
 
-ghost use Rattle.std.specs.Prelude.{◌+◌, ◌≤◌, length};
+ghost use Rattle.std.specs.Prelude.{◌≤◌, length, IfOk, MatchOption};
 
 use machine::constants::{MACHINE_MAX, ROW_WORDS};
 
 // The words of the longest input.
 pub const INPUT: usize = 8192;
 
-// The one kind of case there is: an input of linkrun.
+// The one kind of case there is, a number as the corpus has it: an input of linkrun.
 const KIND: u64 = 1;
 
 // The words of an output with a row for each machine.
@@ -31,83 +31,67 @@ pub const STATE_LAST: usize = ROWS_AT + OUTPUT_WORDS;
 
 pub const ANSWER: usize = STATE_LAST + 1 + STATE_MOST;
 
-// Fills n words of out from `at` on, and answers whether they were all there.
-pub fn read_words(out: &mut [u64], at: usize, n: usize) -> bool
-    requires { (at + n ≤ length out.old) × (n ≤ INPUT) }
-{
-    let mut bytes = io::large_buffer();
-    let end = 8 * n;
-    if io::read_full(0, &mut bytes[..end]) < end {
-        return false;
-    }
-    text::put_words(&bytes, n, &mut out[at..]);
-    true
-}
-
-// What there is of a case's input: nothing behind the last case, one that is cut or of a kind that
-// is not known here, or its words.
-pub const END: u64 = 0;
-
-pub const BROKEN: u64 = 1;
-
-pub const READ: u64 = 2;
-
-// Which of these, and how many words.
+// The corpus is cut, or of a kind or a size that is not known here.
 #[derive(Clone, Copy)]
-pub struct Input {
-    pub found: u64,
-    pub count: usize,
-}
+pub struct Broken;
 
-fn no_input(found: u64) -> Input
-    ensures { result.count ≤ INPUT }
+// Fills out with the next words.
+pub fn read_words(out: &mut [u64]) -> Result<(), Broken>
+    requires { length out.old ≤ INPUT }
 {
-    Input { found, count: 0 }
+    let n = out.len();
+    let end = 8 * n;
+    let mut bytes = io::large_buffer();
+    if io::read_full(0, &mut bytes[..end]) < end {
+        return Err(Broken);
+    }
+    text::put_words(&bytes, n, out);
+    Ok(())
 }
 
-// Reads the next case's input to the start of words.
-pub fn read_input(words: &mut [u64]) -> Input
+fn read_word() -> Result<u64, Broken> {
+    let mut word = [0u64; 1];
+    read_words(&mut word)?;
+    Ok(word[0])
+}
+
+// Reads the words of a case's input of this kind, and answers how many they are.
+fn read_input_of(kind: u64, words: &mut [u64]) -> Result<usize, Broken>
     requires { INPUT ≤ length words.old }
-    ensures { result.count ≤ INPUT }
+    ensures { IfOk result (λ count. count ≤ INPUT) }
 {
-    let mut head = [0u64; 2];
-    if !read_words(&mut head, 0, 1) {
-        return no_input(END);
+    let count = read_word()?;
+    if kind != KIND || count > INPUT as u64 {
+        return Err(Broken);
     }
-    if !read_words(&mut head, 1, 1) {
-        return no_input(BROKEN);
-    }
-    if head[0] != KIND {
-        return no_input(BROKEN);
-    }
-    if head[1] > INPUT as u64 {
-        return no_input(BROKEN);
-    }
-    let count = head[1] as usize;
-    if !read_words(words, 0, count) {
-        return no_input(BROKEN);
-    }
-    Input { found: READ, count }
+    let count = count as usize;
+    read_words(&mut words[..count])?;
+    Ok(count)
 }
 
-// Reads a call's answer to the start of out, which then has at most that many words. False where
-// it is cut, or too long for one of the most machines.
-pub fn read_answer(out: &mut [u64; ANSWER]) -> bool {
-    if !read_words(out, 0, ROWS_AT) {
-        return false;
-    }
+// Reads the next case's input to the start of words, and answers how many words it has. Nothing is
+// behind the last case.
+pub fn read_input(words: &mut [u64]) -> Option<Result<usize, Broken>>
+    requires { INPUT ≤ length words.old }
+    ensures { MatchOption result (Unit {0}) (λ input. IfOk input (λ count. count ≤ INPUT)) }
+{
+    let kind = read_word().ok()?;
+    Some(read_input_of(kind, words))
+}
+
+// Reads a call's answer to the start of out, which then has at most that many words.
+pub fn read_answer(out: &mut [u64; ANSWER]) -> Result<(), Broken> {
+    read_words(&mut out[..ROWS_AT])?;
     let actions = out[1];
     if actions > MACHINE_MAX as u64 {
-        return false;
+        return Err(Broken);
     }
-    let rows = ROW_WORDS * actions as usize;
-    if !read_words(out, ROWS_AT, rows + 1) {
-        return false;
-    }
-    let state = ROWS_AT + rows;
+    let state = ROWS_AT + ROW_WORDS * actions as usize;
+    read_words(&mut out[ROWS_AT..state + 1])?;
     let count = out[state];
     if count > STATE_MOST as u64 {
-        return false;
+        return Err(Broken);
     }
-    read_words(out, state + 1, count as usize)
+    let first = state + 1;
+    read_words(&mut out[first..first + count as usize])
 }

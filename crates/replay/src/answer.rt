@@ -1,35 +1,22 @@
 // An answer as words in the corpus's layout, so that two answers are the same where their words are.
-ghost use Rattle.std.specs.Prelude.{◌≡◌, ℕ, ◌+◌, ◌*◌, ◌≤◌, ◌<◌, length, get_or};
+ghost use Rattle.std.specs.Prelude.{◌≡◌, ℕ, ◌+◌, ◌≤◌, ◌<◌, length, get_or, IfSome, MatchOption};
 ghost use Rattle.machine.specs.Constants.{machine_max};
 
-use corpus::{ANSWER, OUTPUT_WORDS, OWN_WORDS, ROWS_AT, RUNTIME_WORDS, STATE_LAST};
+use corpus::{ANSWER, OUTPUT_WORDS, OWN_WORDS, ROWS_AT, RUNTIME_WORDS, STATE_MOST};
 use machine::constants::{MACHINE_MAX, ROW_WORDS};
-use steps::{Framework, MachineRuntime};
+use steps::{Answer, Framework, MachineRuntime};
 
 // Bits of a float. NaNs count as one.
 fn bits(x: f64) -> u64 {
-    if x == x {
-        f64::to_bits(x)
-    } else {
+    if x.is_nan() {
         0x7ff8_0000_0000_0000
+    } else {
+        x.to_bits()
     }
 }
 
-// Puts the first n words in an answer, from `at` on.
-fn put(out: &mut [u64; ANSWER], at: usize, words: &[u64], n: usize)
-    requires { (at + n ≤ ANSWER) × (n ≤ length words.now) }
-{
-    let mut i: usize = 0;
-    while i < n {
-        out[at + i] = words[i];
-        i += 1;
-    }
-}
-
-fn put_runtime(out: &mut [u64; ANSWER], at: usize, r: MachineRuntime)
-    requires { at + RUNTIME_WORDS ≤ ANSWER }
-{
-    let words = [
+fn runtime_words(r: &MachineRuntime) -> [u64; RUNTIME_WORDS] {
+    [
         r.current_state,
         r.state_limit,
         r.counts.padding_sent,
@@ -39,16 +26,11 @@ fn put_runtime(out: &mut [u64; ANSWER], at: usize, r: MachineRuntime)
         r.allowed_blocked_microsec,
         r.counters.counter_a,
         r.counters.counter_b,
-    ];
-    put(out, at, &words, RUNTIME_WORDS);
+    ]
 }
 
-// The number of the state's words, and the framework's own.
-fn put_own(out: &mut [u64; ANSWER], at: usize, count: u64, fw: Framework)
-    requires { at + (1 + OWN_WORDS) ≤ ANSWER }
-{
-    let words = [
-        count,
+fn own_words(fw: &Framework) -> [u64; OWN_WORDS] {
+    [
         fw.machines,
         fw.current_time,
         bits(fw.fixed.max_padding_frac),
@@ -60,20 +42,18 @@ fn put_own(out: &mut [u64; ANSWER], at: usize, count: u64, fw: Framework)
         fw.totals.blocking_active,
         fw.signal_pending,
         fw.fixed.framework_start,
-    ];
-    put(out, at, &words, 1 + OWN_WORDS);
+    ]
 }
 
 // The framework's state with so many machines, behind the number of its words.
-fn put_state(out: &mut [u64; ANSWER], at: usize, fw: Framework, machines: usize)
-    requires { (at ≤ STATE_LAST) × (machines ≤ machine_max) }
+fn put_state(out: &mut [u64], fw: &Framework, machines: usize)
+    requires { (1 + STATE_MOST ≤ length out.old) × (machines ≤ machine_max) }
 {
-    put_own(out, at, (OWN_WORDS + RUNTIME_WORDS * machines) as u64, fw);
-    let mut m: usize = 0;
-    while m < machines {
-        let r = fw.runtime[m];
-        put_runtime(out, at + 1 + OWN_WORDS + RUNTIME_WORDS * m, r);
-        m += 1;
+    out[0] = (OWN_WORDS + RUNTIME_WORDS * machines) as u64;
+    out[1..1 + OWN_WORDS].copy_from_slice(&own_words(fw));
+    let rows = out[1 + OWN_WORDS..].chunks_exact_mut(RUNTIME_WORDS);
+    for (r, row) in fw.runtime[..machines].iter().zip(rows) {
+        row.copy_from_slice(&runtime_words(r));
     }
 }
 
@@ -81,42 +61,27 @@ fn put_state(out: &mut [u64; ANSWER], at: usize, fw: Framework, machines: usize)
 pub fn at_most_max(n: u64) -> usize
     ensures { result ≤ machine_max }
 {
-    if n < MACHINE_MAX as u64 {
-        n as usize
-    } else {
-        MACHINE_MAX
-    }
+    n.min(MACHINE_MAX as u64) as usize
 }
 
 // An answer with so many machines of its framework.
-pub fn put_answer(
-    out: &mut [u64; ANSWER],
-    refusal: u64,
-    actions: u64,
-    chance_used: u64,
-    value_used: u64,
-    rows: &[u64; OUTPUT_WORDS],
-    fw: Framework,
-    machines: usize,
-)
+pub fn words(a: &Answer, rows: &[u64; OUTPUT_WORDS], machines: usize) -> [u64; ANSWER]
     requires { machines ≤ machine_max }
 {
-    let head = [refusal, actions, chance_used, value_used];
-    put(out, 0, &head, ROWS_AT);
-    let words = ROW_WORDS * at_most_max(actions);
-    put(out, ROWS_AT, rows, words);
-    put_state(out, ROWS_AT + words, fw, machines);
+    let mut out = [0u64; ANSWER];
+    out[..ROWS_AT].copy_from_slice(&[a.refusal, a.actions, a.chance_used, a.value_used]);
+    let count = ROW_WORDS * at_most_max(a.actions);
+    let state = ROWS_AT + count;
+    out[ROWS_AT..state].copy_from_slice(&rows[..count]);
+    put_state(&mut out[state..], &a.framework, machines);
+    out
 }
 
-// The first place at which two answers differ, ANSWER where they do not.
-pub fn difference(a: &[u64; ANSWER], b: &[u64; ANSWER]) -> usize
-    ensures within { result ≤ ANSWER }
-    ensures before { (k : ℕ) → k < result → get_or a.now k 0 ≡ get_or b.now k 0 }
+// The first place at which two answers differ.
+pub fn difference(a: &[u64; ANSWER], b: &[u64; ANSWER]) -> Option<usize>
+    ensures within { IfSome result (λ n. n < ANSWER) }
+    ensures before { let same : ℕ → Type 0 = λ n. (k : ℕ) → k < n → get_or a.now k 0 ≡ get_or b.now k 0 in
+        MatchOption result (same ANSWER) same }
 {
-    for i in 0..ANSWER {
-        if a[i] != b[i] {
-            return i;
-        }
-    }
-    ANSWER
+    a.iter().zip(b).position(|(x, y)| *x != *y)
 }

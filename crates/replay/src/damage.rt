@@ -1,234 +1,199 @@
 // Calls that no input of linkrun can make: each is refused with its number and changes nothing.
-ghost use Rattle.std.specs.Prelude.{◌≡◌, ◌≤◌};
-ghost use Rattle.stream.specs.Stream.{check_of};
+ghost use Rattle.std.specs.Prelude.{◌≤◌};
 
 use super::answer::at_most_max;
-use super::judge::{MARK, lent_batch, refused_field, refused_opening_field};
-use super::tally::{Tally, damaged};
+use super::input::{Accepted, Batch, Tapes};
+use super::judge::{MARK, refused_call, refused_opening};
+use super::tally::{Difference, Tally};
 use corpus::OUTPUT_WORDS;
 use machine::constants::{MACHINE_WORDS, NUM_STATES, ROW_WORDS};
+use machine::event::NORMAL_SENT;
+use machine::tables::Tables;
+use refusal::Refusal;
 use steps::{Framework, Opened};
 
-// The damages, as a difference prints them. A table one word short, in a batch and in an opening,
-// refused as 3:
-const SHORT_MACHINES: u64 = 1;
-
-const SHORT_STATES: u64 = 2;
-
-const SHORT_TRANSITIONS: u64 = 3;
-
-const SHORT_OPENING: u64 = 4;
-
-// A framework with a machine more, with a state one past its machine's last, with a pending signal
-// that leaves out an unknown machine, and with an ended number one too large, refused as 18:
-const MACHINE_MORE: u64 = 5;
-
-const STATE_BEYOND: u64 = 6;
-
-const SIGNAL_BEYOND: u64 = 7;
-
-const ENDED_MORE: u64 = 8;
-
-// Half an event, and a kind of 10, refused as 19:
-const HALF_EVENT: u64 = 9;
-
-const KIND_TEN: u64 = 10;
-
-// An output one word short, refused as 20:
-const SHORT_OUTPUT: u64 = 11;
-
-// Tables that the opening refused, which a batch refuses the same way:
-const REFUSED_TABLES: u64 = 12;
-
-// The framework of an opening that was refused for its draws, refused as 18:
-const NO_FRAMEWORK: u64 = 13;
-
-// The last damage of an accepted opening's framework.
-const LAST: u64 = SHORT_OUTPUT;
-
-// Whether an accepted input can be damaged so.
-fn applies(words: &[u64], damage: u64) -> bool
-    requires { check_of words.now ≡ 0 }
-{
-    match damage {
-        SHORT_STATES => 0 < stream::state_table(words).len(),
-        SHORT_TRANSITIONS => 0 < stream::transition_table(words).len(),
-        MACHINE_MORE | SIGNAL_BEYOND | ENDED_MORE | HALF_EVENT | KIND_TEN => true,
-        _ => 0 < stream::machine_table(words).len(),
-    }
+// The damages, in the order of the numbers by which a difference prints them, from 1 on.
+#[derive(Clone, Copy, PartialEq, Eq)]
+pub enum Damage {
+    // a table one word short, in a batch and in an opening
+    ShortMachines = 1,
+    ShortStates,
+    ShortTransitions,
+    ShortOpening,
+    // a framework with a machine more, with a state one past its machine's last, with a pending signal
+    // that leaves out an unknown machine, and with an ended number one too large
+    MachineMore,
+    StateBeyond,
+    SignalBeyond,
+    EndedMore,
+    // half an event, and a kind of 10
+    HalfEvent,
+    KindTen,
+    // an output one word short
+    ShortOutput,
+    // tables that the opening refused, which a batch refuses the same way
+    RefusedTables,
+    // the framework of an opening that was refused for its draws
+    NoFramework,
 }
 
-fn refusal_of(damage: u64) -> u64 {
-    match damage {
-        MACHINE_MORE | STATE_BEYOND | SIGNAL_BEYOND | ENDED_MORE => 18,
-        HALF_EVENT | KIND_TEN => 19,
-        SHORT_OUTPUT => 20,
-        _ => 3,
-    }
-}
+// The damages of an accepted opening's framework.
+const OF_ACCEPTED: [Damage; 11] = [
+    Damage::ShortMachines,
+    Damage::ShortStates,
+    Damage::ShortTransitions,
+    Damage::ShortOpening,
+    Damage::MachineMore,
+    Damage::StateBeyond,
+    Damage::SignalBeyond,
+    Damage::EndedMore,
+    Damage::HalfEvent,
+    Damage::KindTen,
+    Damage::ShortOutput,
+];
 
-// All but the last word where it is to be cut.
-fn table(whole: &[u64], cut: bool) -> &[u64] {
-    if cut {
-        let n = whole.len();
-        if 0 < n {
-            let end = n - 1;
-            return &whole[..end];
+impl Damage {
+    // Whether a call on these tables can be damaged so.
+    fn applies(self, tables: Tables) -> bool {
+        match self {
+            Damage::ShortStates => !tables.states.is_empty(),
+            Damage::ShortTransitions => !tables.transitions.is_empty(),
+            Damage::ShortMachines
+            | Damage::ShortOpening
+            | Damage::StateBeyond
+            | Damage::ShortOutput => !tables.machines.is_empty(),
+            _ => true,
         }
     }
-    whole
-}
 
-// Of the events NormalSent and one of kind 10.
-fn event_words(damage: u64) -> usize
-    ensures { result ≤ 4 }
-{
-    match damage {
-        HALF_EVENT => 3,
-        KIND_TEN => 4,
-        _ => 2,
-    }
-}
-
-fn room(damage: u64, machines: u64) -> usize
-    ensures { result ≤ OUTPUT_WORDS }
-{
-    let words = ROW_WORDS * at_most_max(machines);
-    if damage == SHORT_OUTPUT {
-        if 0 < words {
-            return words - 1;
+    fn refusal(self) -> Refusal {
+        match self {
+            Damage::MachineMore
+            | Damage::StateBeyond
+            | Damage::SignalBeyond
+            | Damage::EndedMore
+            | Damage::NoFramework => Refusal::ForeignFramework,
+            Damage::HalfEvent | Damage::KindTen => Refusal::UnknownEvents,
+            Damage::ShortOutput => Refusal::NoRoom,
+            _ => Refusal::NotWholeRows,
         }
     }
-    OUTPUT_WORDS
+
+    fn tables<'a>(self, whole: Tables<'a>) -> Tables<'a> {
+        let mut tables = whole;
+        match self {
+            Damage::ShortMachines => tables.machines = but_last(whole.machines),
+            Damage::ShortStates => tables.states = but_last(whole.states),
+            Damage::ShortTransitions => tables.transitions = but_last(whole.transitions),
+            _ => {}
+        }
+        tables
+    }
+
+    fn framework(self, fw: &Framework, machines: &[u64]) -> Framework {
+        let mut damaged = *fw;
+        match self {
+            Damage::MachineMore => damaged.machines = fw.machines.saturating_add(1),
+            Damage::StateBeyond => put_state_beyond(&mut damaged, machines),
+            Damage::SignalBeyond => damaged.signal_pending = fw.machines.saturating_add(2),
+            Damage::EndedMore => damaged.ended = fw.ended.saturating_add(1),
+            _ => {}
+        }
+        damaged
+    }
+
+    // The words of an event NormalSent, half of one behind it, or one of kind 10.
+    fn events(self) -> &'static [u64] {
+        match self {
+            Damage::HalfEvent => &[NORMAL_SENT, 0, 10],
+            Damage::KindTen => &[NORMAL_SENT, 0, 10, 0],
+            _ => &[NORMAL_SENT, 0],
+        }
+    }
+
+    // The words of the output that a call for so many machines is lent.
+    fn room(self, machines: u64) -> usize
+        ensures { result ≤ OUTPUT_WORDS }
+    {
+        let needed = ROW_WORDS * at_most_max(machines);
+        if self == Damage::ShortOutput && 0 < needed {
+            needed - 1
+        } else {
+            OUTPUT_WORDS
+        }
+    }
 }
 
-// The framework with its last machine in a state one past its last.
-fn state_beyond(fw: Framework, words: &[u64]) -> Framework
-    requires { check_of words.now ≡ 0 }
-{
-    let count = at_most_max(fw.machines);
-    if count == 0 {
-        return fw;
+// A table without its last word.
+fn but_last(table: &[u64]) -> &[u64] {
+    match table.split_last() {
+        Some((_, others)) => others,
+        None => table,
     }
-    let m = count - 1;
-    let mut d = fw;
-    let mut r = fw.runtime[m];
-    r.current_state = stream::word(stream::machine_table(words), MACHINE_WORDS * m + NUM_STATES);
-    d.runtime[m] = r;
-    d
 }
 
-fn changed(fw: Framework, words: &[u64], damage: u64) -> Framework
-    requires { check_of words.now ≡ 0 }
-{
-    let mut d = fw;
-    if damage == MACHINE_MORE {
-        d.machines = numbers::saturating_add(fw.machines, 1);
-        return d;
-    }
-    if damage == SIGNAL_BEYOND {
-        d.signal_pending = numbers::saturating_add(fw.machines, 2);
-        return d;
-    }
-    if damage == ENDED_MORE {
-        d.ended = numbers::saturating_add(fw.ended, 1);
-        return d;
-    }
-    if damage == STATE_BEYOND {
-        return state_beyond(fw, words);
-    }
-    fw
+// Puts the last machine in a state one past its last.
+fn put_state_beyond(fw: &mut Framework, machines: &[u64]) {
+    let Some(m) = at_most_max(fw.machines).checked_sub(1) else {
+        return;
+    };
+    fw.runtime[m].current_state = stream::word(machines, MACHINE_WORDS * m + NUM_STATES);
 }
 
 // What a batch with this damage differs in from one that is refused so.
-fn batch_field(fw: Framework, words: &[u64], damage: u64, refusal: u64) -> usize
-    requires { check_of words.now ≡ 0 }
-{
-    let machines = table(stream::machine_table(words), damage == SHORT_MACHINES);
-    let states = table(stream::state_table(words), damage == SHORT_STATES);
-    let transitions = table(stream::transition_table(words), damage == SHORT_TRANSITIONS);
-    let events = [3u64, 0, 10, 0];
-    let n = event_words(damage);
-    let chances = [0.5f32; 16];
-    let values = [1.0f64; 16];
-    let time = numbers::saturating_add(fw.current_time, 1);
+fn batch(damage: Damage, fw: &Framework, tables: Tables, refusal: u64) -> Result<(), Difference> {
+    let damaged = Batch {
+        framework: damage.framework(fw, tables.machines),
+        tables: damage.tables(tables),
+        time: fw.current_time.saturating_add(1),
+        events: damage.events(),
+        tapes: Tapes {
+            chances: &[0.5; 16],
+            values: &[1.0; 16],
+        },
+    };
     let mut out = [MARK; OUTPUT_WORDS];
-    let end = room(damage, fw.machines);
-    let a = lent_batch(
-        fw,
-        machines,
-        states,
-        transitions,
-        time,
-        &events[..n],
-        &chances,
-        &values,
-        &mut out,
-        end,
-    );
-    refused_field(refusal, fw, a, &out)
+    let a = damaged.run(&mut out[..damage.room(fw.machines)]);
+    refused_call(refusal, &damaged.framework, &a, &out)
 }
 
-fn opening_field(words: &[u64]) -> usize
-    requires { check_of words.now ≡ 0 }
-{
-    let values = [1.0f64; 16];
-    let padding = numbers::f64_of_word(stream::word(words, 0));
-    let blocking = numbers::f64_of_word(stream::word(words, 1));
-    let machines = table(stream::machine_table(words), true);
-    let states = stream::state_table(words);
-    let transitions = stream::transition_table(words);
-    let o = framework::opening(padding, blocking, 1, machines, states, transitions, &values);
-    refused_opening_field(3, o)
+// The same of an opening whose machine table is a word short.
+fn opening(input: Accepted, tables: Tables, refusal: u64) -> Result<(), Difference> {
+    let o = input.opening(Damage::ShortMachines.tables(tables), 1, &[1.0; 16]);
+    refused_opening(refusal, &o)
 }
 
-fn field_of(fw: Framework, words: &[u64], damage: u64) -> usize
-    requires { check_of words.now ≡ 0 }
-{
-    if damage == SHORT_OPENING {
-        return opening_field(words);
-    }
-    let d = changed(fw, words, damage);
-    batch_field(d, words, damage, refusal_of(damage))
-}
-
-fn on_accepted(t: Tally, fw: Framework, words: &[u64]) -> Tally
-    requires { check_of words.now ≡ 0 }
-{
-    let mut r = t;
-    let mut damage = SHORT_MACHINES;
-    while damage <= LAST {
-        if applies(words, damage) {
-            r = damaged(r, damage, field_of(fw, words, damage));
+fn on_accepted(tally: &mut Tally, fw: &Framework, input: Accepted) {
+    let tables = input.tables();
+    for damage in OF_ACCEPTED {
+        if damage.applies(tables) {
+            let refusal = damage.refusal().into();
+            let judged = if damage == Damage::ShortOpening {
+                opening(input, tables, refusal)
+            } else {
+                batch(damage, fw, tables, refusal)
+            };
+            tally.damaged(damage, judged);
         }
-        damage += 1;
     }
-    r
-}
-
-fn on_refused(t: Tally, fw: Framework, words: &[u64], refusal: u64) -> Tally
-    requires { check_of words.now ≡ 0 }
-{
-    if refusal < 3 {
-        return t;
-    }
-    if refusal < 16 {
-        return damaged(
-            t,
-            REFUSED_TABLES,
-            batch_field(fw, words, REFUSED_TABLES, refusal),
-        );
-    }
-    damaged(t, NO_FRAMEWORK, batch_field(fw, words, NO_FRAMEWORK, 18))
 }
 
 // After the opening of an input.
-pub fn damaged_calls(t: Tally, words: &[u64], o: Opened) -> Tally
-    requires { check_of words.now ≡ 0 }
-{
-    let fw = o.framework;
-    if o.refusal == 0 {
-        return on_accepted(t, fw, words);
+pub fn damaged_calls(tally: &mut Tally, input: Accepted, o: &Opened) {
+    let fw = &o.framework;
+    let tables = input.tables();
+    // a number: it crosses to C
+    match o.refusal {
+        0 => on_accepted(tally, fw, input),
+        // the framework's own fractions, which a batch does not have
+        1 | 2 => {}
+        3..=15 => {
+            let damage = Damage::RefusedTables;
+            tally.damaged(damage, batch(damage, fw, tables, o.refusal));
+        }
+        _ => {
+            let damage = Damage::NoFramework;
+            tally.damaged(damage, batch(damage, fw, tables, damage.refusal().into()));
+        }
     }
-    on_refused(t, fw, words, o.refusal)
 }

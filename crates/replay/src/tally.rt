@@ -1,80 +1,85 @@
 // What was compared, and what differed.
+use super::damage::Damage;
 use corpus::ANSWER;
 
-// Cases and calls of the corpus, calls of our own on damaged input, and how many of both agreed.
+// What a call differed in.
 #[derive(Clone, Copy)]
-pub struct Tally {
-    pub cases: u64,
-    pub calls: u64,
-    pub damaged: u64,
-    pub agreed: u64,
-    pub differed: u64,
+pub enum Difference {
+    // a word of its answer: the first place (answer.rt) at which they differ
+    Word(usize),
+    // output words behind the rows were written
+    Output,
+    // the ended number, or all_machines_ended
+    Ended,
+    // a start state without an action has a limit
+    Limit,
+    // the corpus itself is cut, or of a kind that is not known here
+    Corpus,
 }
 
-// What a call differed in, as a difference prints it: the first place of its answer's words
-// (answer.rt) at which they differ, or one of these.
-pub const AGREED: usize = ANSWER;
-
-// Output words behind the rows were written.
-pub const OUTPUT: usize = ANSWER + 1;
-
-// The ended number, or all_machines_ended.
-pub const ENDED: usize = ANSWER + 2;
-
-// A start state without an action has a limit.
-pub const LIMIT: usize = ANSWER + 3;
-
-// The corpus itself is cut, or of a kind that is not known here.
-pub const CORPUS: usize = ANSWER + 4;
+// As a line prints it: the places are below ANSWER.
+impl From<Difference> for u64 {
+    fn from(difference: Difference) -> u64 {
+        match difference {
+            Difference::Word(place) => place as u64,
+            Difference::Output => ANSWER as u64 + 1,
+            Difference::Ended => ANSWER as u64 + 2,
+            Difference::Limit => ANSWER as u64 + 3,
+            Difference::Corpus => ANSWER as u64 + 4,
+        }
+    }
+}
 
 // At most so many differences are printed.
 const PRINTED: u64 = 10;
 
-pub fn nothing() -> Tally {
-    Tally {
-        cases: 0,
-        calls: 0,
-        damaged: 0,
-        agreed: 0,
-        differed: 0,
+// Cases and calls of the corpus, calls of our own on damaged input, and how many of both agreed.
+#[derive(Clone, Copy, Default)]
+pub struct Tally {
+    cases: u64,
+    calls: u64,
+    damaged: u64,
+    agreed: u64,
+    differed: u64,
+}
+
+impl Tally {
+    pub fn next_case(&mut self) {
+        self.cases = self.cases.saturating_add(1);
     }
-}
 
-fn more(n: u64) -> u64 {
-    numbers::saturating_add(n, 1)
-}
-
-pub fn next_case(t: Tally) -> Tally {
-    let mut r = t;
-    r.cases = more(t.cases);
-    r
-}
-
-// A call of the corpus: its number, and what it differed in.
-pub fn recorded(t: Tally, call: u64, field: usize) -> Tally {
-    let mut r = judged(t, b" call ", call, field);
-    r.calls = more(t.calls);
-    r
-}
-
-// A call on damaged input: what was damaged (its number in damage.rt), and what it differed in.
-pub fn damaged(t: Tally, damage: u64, field: usize) -> Tally {
-    let mut r = judged(t, b" damage ", damage, field);
-    r.damaged = more(t.damaged);
-    r
-}
-
-fn judged(t: Tally, what: &[u8], number: u64, field: usize) -> Tally {
-    let mut r = t;
-    if field == AGREED {
-        r.agreed = more(t.agreed);
-        return r;
+    // A call of the corpus, by its number.
+    pub fn recorded(&mut self, call: u64, judged: Result<(), Difference>) {
+        self.judged(b" call ", call, judged);
+        self.calls = self.calls.saturating_add(1);
     }
-    if t.differed < PRINTED {
-        print_difference(t.cases, what, number, field);
+
+    // A call on damaged input.
+    pub fn damaged(&mut self, damage: Damage, judged: Result<(), Difference>) {
+        self.judged(b" damage ", damage as u64, judged);
+        self.damaged = self.damaged.saturating_add(1);
     }
-    r.differed = more(t.differed);
-    r
+
+    fn judged(&mut self, what: &[u8], number: u64, judged: Result<(), Difference>) {
+        let Err(difference) = judged else {
+            self.agreed = self.agreed.saturating_add(1);
+            return;
+        };
+        if self.differed < PRINTED {
+            print_number(b"case ", self.cases);
+            print_number(what, number);
+            print_line(b" differs at ", difference.into());
+        }
+        self.differed = self.differed.saturating_add(1);
+    }
+
+    pub fn print(&self) {
+        print_line(b"cases ", self.cases);
+        print_line(b"calls ", self.calls);
+        print_line(b"damaged calls ", self.damaged);
+        print_line(b"agreed ", self.agreed);
+        print_line(b"differed ", self.differed);
+    }
 }
 
 fn print_number(label: &[u8], n: u64) {
@@ -85,18 +90,4 @@ fn print_number(label: &[u8], n: u64) {
 fn print_line(label: &[u8], n: u64) {
     print_number(label, n);
     io::write_all(1, b"\n");
-}
-
-fn print_difference(case: u64, what: &[u8], number: u64, field: usize) {
-    print_number(b"case ", case);
-    print_number(what, number);
-    print_line(b" differs at ", field as u64);
-}
-
-pub fn print(t: Tally) {
-    print_line(b"cases ", t.cases);
-    print_line(b"calls ", t.calls);
-    print_line(b"damaged calls ", t.damaged);
-    print_line(b"agreed ", t.agreed);
-    print_line(b"differed ", t.differed);
 }

@@ -4,7 +4,7 @@
 // others have the third.
 #![tactic(auto)]
 
-ghost use Rattle.std.specs.Prelude.{◌≡◌, ◌≤◌, length};
+ghost use Rattle.std.specs.Prelude.{◌≤◌};
 
 const STDOUT_FILENO: i32 = 1;
 
@@ -151,19 +151,16 @@ fn machines() -> [u64; WORDS] {
     w[MAX_PADDING_FRAC] = HALF;
     w[MAX_BLOCKING_FRAC] = HALF;
     w[NUM_STATES] = 2;
-    let mut i = 1;
-    while i <= MACHINE_MAX {
-        w[i * MACHINE_WORDS + FIRST_STATE] = 2;
-        w[i * MACHINE_WORDS + NUM_STATES] = 1;
-        i = i + 1;
+    for row in w[MACHINE_WORDS..MACHINES_MORE].chunks_exact_mut(MACHINE_WORDS) {
+        row[FIRST_STATE] = 2;
+        row[NUM_STATES] = 1;
     }
     w
 }
 
 // State 0: BlockOutgoing with a limit; A is incremented, B is set by copy. Its first event goes to 0 or
 // 1, its last to END.
-fn state_0(v: [u64; WORDS]) -> [u64; WORDS] {
-    let mut w = v;
+fn put_state_0(w: &mut [u64; WORDS]) {
     w[ACTION_0] = 3;
     w[FLAGS_0] = 3;
     w[TIMEOUT_0] = 1;
@@ -179,13 +176,11 @@ fn state_0(v: [u64; WORDS]) -> [u64; WORDS] {
     w[COUNT_0] = 2;
     w[LAST_EVENT] = 2;
     w[LAST_COUNT] = 1;
-    w
 }
 
 // State 1 has no action, and what it does not use is not fit for use. State 2: Cancel of all timers;
 // an event signals.
-fn states_1_and_2(v: [u64; WORDS]) -> [u64; WORDS] {
-    let mut w = v;
+fn put_states_1_and_2(w: &mut [u64; WORDS]) {
     w[FLAGS_1] = 99;
     w[TIMER_1] = 99;
     w[TIMEOUT_1] = 99;
@@ -195,12 +190,10 @@ fn states_1_and_2(v: [u64; WORDS]) -> [u64; WORDS] {
     w[TIMER_2] = 2;
     w[EVENT_2] = 3;
     w[COUNT_2] = 1;
-    w
 }
 
 // Half to 0, half to 1; END; SIGNAL.
-fn transitions(v: [u64; WORDS]) -> [u64; WORDS] {
-    let mut w = v;
+fn put_transitions(w: &mut [u64; WORDS]) {
     w[CHANCE_0] = 0x3f00_0000;
     w[TARGET_1] = 1;
     w[CHANCE_1] = 0x3f00_0000;
@@ -208,41 +201,40 @@ fn transitions(v: [u64; WORDS]) -> [u64; WORDS] {
     w[CHANCE_2] = 0x3f80_0000;
     w[TARGET_3] = SIGNAL;
     w[CHANCE_3] = 0x3f80_0000;
-    w
 }
 
 fn valid() -> [u64; WORDS] {
-    transitions(states_1_and_2(state_0(machines())))
-}
-
-fn damaged(v: [u64; WORDS], place: usize, value: u64) -> [u64; WORDS] {
-    let mut w = v;
-    if place < WORDS {
-        w[place] = value;
-    }
+    let mut w = machines();
+    put_state_0(&mut w);
+    put_states_1_and_2(&mut w);
+    put_transitions(&mut w);
     w
 }
 
 // ---- one case
 
-fn say(ok: bool) {
-    if ok {
-        io::write_all(STDOUT_FILENO, b".");
-    } else {
-        io::write_all(STDOUT_FILENO, b"x");
-    }
+// Refusals are numbers here, as a sender sees them: 0 is none.
+fn say(answer: u64, refusal: u64) {
+    let mark = if answer == refusal { b"." } else { b"x" };
+    io::write_all(STDOUT_FILENO, mark);
+}
+
+fn fractions_number(padding: f64, blocking: f64) -> u64 {
+    tables::check_fractions(padding, blocking)
+}
+
+fn tables_number(machines: &[u64], states: &[u64], transitions: &[u64]) -> u64 {
+    tables::check_tables(machines, states, transitions)
 }
 
 // The answer to the first m, s and t words of the three tables.
-fn answer(w: &[u64], m: usize, s: usize, t: usize) -> u64
-    requires { (length w.now ≡ WORDS) × (m ≤ MACHINES_MORE) × (s ≤ STATES) × (t ≤ TRANSITIONS) }
+fn answer(w: &[u64; WORDS], m: usize, s: usize, t: usize) -> u64
+    requires { (m ≤ MACHINES_MORE) × (s ≤ STATES) × (t ≤ TRANSITIONS) }
 {
-    let states_end = STATE_0 + s;
-    let transitions_end = TRANSITIONS_AT + t;
-    tables::check_tables(
-        &w[0..m],
-        &w[STATE_0..states_end],
-        &w[TRANSITIONS_AT..transitions_end],
+    tables_number(
+        &w[..m],
+        &w[STATE_0..STATE_0 + s],
+        &w[TRANSITIONS_AT..TRANSITIONS_AT + t],
     )
 }
 
@@ -250,14 +242,21 @@ fn answer(w: &[u64], m: usize, s: usize, t: usize) -> u64
 fn cut(refusal: u64, m: usize, s: usize, t: usize)
     requires { (m ≤ MACHINES_MORE) × (s ≤ STATES) × (t ≤ TRANSITIONS) }
 {
-    let w = valid();
-    say(answer(&w, m, s, t) == refusal);
+    say(answer(&valid(), m, s, t), refusal);
+}
+
+fn damage(w: &mut [u64; WORDS], place: usize, value: u64) {
+    if place < WORDS {
+        w[place] = value;
+    }
 }
 
 // Two words damaged.
 fn two(refusal: u64, place: usize, value: u64, place_2: usize, value_2: u64) {
-    let w = damaged(damaged(valid(), place, value), place_2, value_2);
-    say(answer(&w, MACHINES, STATES, TRANSITIONS) == refusal);
+    let mut w = valid();
+    damage(&mut w, place, value);
+    damage(&mut w, place_2, value_2);
+    say(answer(&w, MACHINES, STATES, TRANSITIONS), refusal);
 }
 
 fn one(refusal: u64, place: usize, value: u64) {
@@ -270,7 +269,9 @@ const LONG_STATES: usize = 1023 * STATE_WORDS;
 
 const LONG_COUNT: usize = EVENTS + 1;
 
-const LONG_ROW: usize = 40 * TRANSITION_WORDS;
+const TARGETS: usize = 40;
+
+const LONG_ROW: usize = TARGETS * TRANSITION_WORDS;
 
 fn long_states(count: u64) -> [u64; LONG_STATES] {
     let mut s = [0; LONG_STATES];
@@ -281,39 +282,39 @@ fn long_states(count: u64) -> [u64; LONG_STATES] {
 // To the first 40 states.
 fn long_row() -> [u64; LONG_ROW] {
     let mut t = [0; LONG_ROW];
-    let mut i = 0;
-    while i < 40 {
-        t[i * TRANSITION_WORDS] = i as u64;
-        t[i * TRANSITION_WORDS + 1] = 0x3c80_0000;
-        i = i + 1;
+    for (i, row) in t.chunks_exact_mut(TRANSITION_WORDS).enumerate() {
+        row[0] = i as u64;
+        row[1] = 0x3c80_0000;
     }
     t
 }
 
-// With one target put in another's place.
-fn to(row: [u64; LONG_ROW], place: usize, target: u64) -> [u64; LONG_ROW] {
-    let mut t = row;
-    if place < 40 {
+// Puts a target in another's place.
+fn put_target(t: &mut [u64; LONG_ROW], place: usize, target: u64) {
+    if place < TARGETS {
         t[place * TRANSITION_WORDS] = target;
     }
-    t
 }
 
 // A machine of n states, whose row has so many transitions.
-fn many(refusal: u64, n: u64, count: u64, t: [u64; LONG_ROW]) {
+fn many(refusal: u64, n: u64, count: u64, t: &[u64; LONG_ROW]) {
     let mut m = [0; MACHINE_WORDS];
     m[NUM_STATES] = n;
-    let s = long_states(count);
-    say(tables::check_tables(&m, &s, &t) == refusal);
+    say(tables_number(&m, &long_states(count), t), refusal);
 }
 
 fn long(refusal: u64, count: u64, place: usize, target: u64) {
-    many(refusal, 40, count, to(long_row(), place, target));
+    let mut t = long_row();
+    put_target(&mut t, place, target);
+    many(refusal, 40, count, &t);
 }
 
 // Two targets of a row of 40.
 fn long_two(refusal: u64, n: u64, target: u64, target_2: u64) {
-    many(refusal, n, 40, to(to(long_row(), 0, target), 39, target_2));
+    let mut t = long_row();
+    put_target(&mut t, 0, target);
+    put_target(&mut t, 39, target_2);
+    many(refusal, n, 40, &t);
 }
 
 // ---- the cases
@@ -321,12 +322,12 @@ fn long_two(refusal: u64, n: u64, target: u64, target_2: u64) {
 // Refusals 1 and 2 of the framework's own fractions, and none.
 fn framework_fractions() {
     let nan = 0.0 / 0.0;
-    say(tables::check_fractions(0.0, 1.0) == 0);
-    say(tables::check_fractions(-0.0, 0.5) == 0);
-    say(tables::check_fractions(1.5, 2.0) == 1);
-    say(tables::check_fractions(nan, 0.0) == 1);
-    say(tables::check_fractions(1.0, -0.5) == 2);
-    say(tables::check_fractions(0.0, nan) == 2);
+    say(fractions_number(0.0, 1.0), 0);
+    say(fractions_number(-0.0, 0.5), 0);
+    say(fractions_number(1.5, 2.0), 1);
+    say(fractions_number(nan, 0.0), 1);
+    say(fractions_number(1.0, -0.5), 2);
+    say(fractions_number(0.0, nan), 2);
 }
 
 // Refusal 3, and none.

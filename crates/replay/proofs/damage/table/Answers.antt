@@ -1,7 +1,0 @@
--- `replay::damage::table` is safe.
-use native.Mathlib.Omega.{arith}
-use lib.ListN.{length-take}
-use Rattle.replay.proofs.damage.table.Goals as goal
-
-pub slice_bounds-result-end : goal.slice_bounds-result-end
-slice_bounds-result-end c = simp length-take (omega arith)
