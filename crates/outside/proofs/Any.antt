@@ -1,24 +1,17 @@
 -- A search through rows, as the definitions say it: by the number of rows. Assumes nothing.
-use Rattle.std.proofs.Common.{◌≡◌, ℕ, suc, ◌+◌, ◌*◌, ◌/◌, ◌<◌, List, [], ◌∷◌, Bool, true, false, ◌||◌, length, get_or, refl, sym, ap, ◌∙◌, arith}
+use Rattle.std.proofs.Common.{◌≡◌, ℕ, suc, ◌+◌, ◌*◌, ◌/◌, ◌<◌, List, [], ◌∷◌, Bool, ◌||◌, length, get_or, refl, sym, ap, ◌∙◌, arith}
 use native.Mathlib.Nat.{add-zero, zero-add}
+use Rattle.std.proofs.Math.Bool.{or_assoc, or-false}
 use Rattle.std.specs.List.{list_any}
 use Rattle.std.specs.Simd.{first_chunks}
 use Rattle.machine.specs.State.{state_row}
 use Rattle.outside.specs.Outside.{state_outside, states_outside, own_rows, machines_outside, draws_outside}
 use Rattle.rows.proofs.Chunks.{row_at, word_at, length_of}
 
-or_assoc : (a b c : Bool) → (a || b) || c ≡ (a || (b || c))
-or_assoc true b c = refl
-or_assoc false b c = refl
-
-or_false : (b : Bool) → (b || false) ≡ b
-or_false true = refl
-or_false false = refl
-
 -- g n: whether f holds of one of the first n
 through : (g f : ℕ → Bool) → ((n : ℕ) → g (suc n) ≡ (g n || f n)) → (test : List ℕ → Bool) (rows : List (List ℕ)) (j : ℕ)
     → ((i : ℕ) → i < length rows → test (get_or rows i []) ≡ f (j + i)) → (g j || list_any test rows) ≡ g (j + length rows)
-through g f more test [] j is = or_false (g j) ∙ ap g (sym (add-zero j))
+through g f more test [] j is = or-false (g j) ∙ ap g (sym (add-zero j))
 through g f more test (x ∷ rows) j is =
     let e : suc j + length rows ≡ j + suc (length rows) = omega arith in
     let here : test x ≡ f j = is 0 (omega arith) ∙ ap f (add-zero j) in

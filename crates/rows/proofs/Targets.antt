@@ -8,6 +8,7 @@ use mathlib.Core.Bool.{Bool, true, false, ◌||◌, or-true, or-false}
 use mathlib.Core.Logic.{◌⊎◌, inl, inr}
 use lib.Dec.{ltb, eqb}
 use lib.ListN.{length, get_or, take, drop}
+use Rattle.std.proofs.Math.Bool.{or_assoc}
 use Rattle.std.proofs.Common.{drop-cons, add-one}
 use Rattle.std.specs.List.{concat, list_any}
 use borrow.Author.Tests.{ltb-true, eqb-true, eqb-false}
@@ -41,10 +42,6 @@ unfolding seen_in
 seen_end ts target e j h = let none : e - j ≡ zero = omega arith in rw none
 
 -- ---- one transition more
-or_assoc : (a b c : Bool) → (a || (b || c)) ≡ ((a || b) || c)
-or_assoc true b c = refl
-or_assoc false b c = refl
-
 last : (ts : List ℕ) (target k j : ℕ) → seen_in ts target (suc k) j ≡ (seen_in ts target k j || eqb (target_at ts (j + k)) target)
 unfolding seen_in
 last ts target zero j = rw (add-zero j) (or-false (eqb (target_at ts j) target))
@@ -53,7 +50,7 @@ last ts target (suc k) j =
     let here = eqb (target_at ts j) target in
     let end = eqb (target_at ts (j + suc k)) target in
     let more : seen_in ts target (suc k) (j + 1) ≡ (seen_in ts target k (j + 1) || end) = rw s (last ts target k (j + 1)) in
-    ap (λ (b : Bool). here || b) more ∙ or_assoc here (seen_in ts target k (j + 1)) end
+    ap (λ (b : Bool). here || b) more ∙ sym (or_assoc here (seen_in ts target k (j + 1)) end)
 
 seen_last : (ts : List ℕ) (target first i : ℕ) → first ≤ i →
     seen_in ts target (i + 1 - first) first ≡ (seen_in ts target (i - first) first || eqb (target_at ts i) target)

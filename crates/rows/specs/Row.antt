@@ -1,8 +1,10 @@
 -- state.rs, `State::validate`, of a row of transitions, with the tests that the tables' words ask beside the Rust's: refusals 8 to 13.
 -- `n` is the number of the machine's states, `ts` the transition table.
-use Rattle.std.specs.Prelude.{ℕ, zero, suc, ◌+◌, ◌-◌, ◌*◌, List, Bool, false, cond, ◌||◌, length, get_or, ltb, leb, eqb, Float}
+use Rattle.std.specs.Prelude.{ℕ, zero, suc, ◌+◌, ◌-◌, ◌*◌, List, Bool, false, cond, ◌||◌, length, get_or, ltb, leb, eqb, Float, Result, Ok, Err}
 use Rattle.std.specs.Float.{binary32}
 use Rattle.std.specs.Float.Ieee.{of_bits, add, lt, le}
+use Rattle.refusal.specs.declared.Refusal.{Refusal}
+use Rattle.refusal.specs.Refusal.{number}
 use Rattle.machine.specs.Constants.{state_end, state_signal, transition_words}
 use Rattle.machine.specs.State.{target_at, probability_at}
 use Rattle.rows.specs.First.{or_else, first_refusal}
@@ -46,6 +48,11 @@ sum_from ts i (suc k) sum = sum_from ts (i + 1) k (add binary32 sum (probability
 -- Refusal 13.
 unfoldable pub sum_refusal : Float → ℕ
 sum_refusal sum = cond (improbable sum) 13 0
+
+-- The same of a sum that was reached, or the refusal of a transition before it.
+abbrev pub refusal_of_sum : Result Float Refusal → ℕ
+refusal_of_sum (Ok sum) = sum_refusal sum
+refusal_of_sum (Err r) = number r
 
 -- Refusals 9 to 13 of a row within the table: transition by transition, then the sum.
 unfoldable pub row_refusal : List ℕ → ℕ → ℕ → ℕ → ℕ

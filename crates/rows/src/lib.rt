@@ -150,31 +150,29 @@ fn check_sum(sum: f32) -> Result<(), Refusal>
     }
 }
 
-// ---- a row
+// ---- a row: the sum of its probabilities, or the first refusal of its transitions
 
-fn check_one(only: &Transition, n: u64) -> Result<(), Refusal>
-    ensures { refusal_of result ≡ Spec.row_refusal (concat (only.now ∷ [])) n 0 1 }
+fn sum_of_one(only: &Transition, n: u64) -> Result<f32, Refusal>
+    ensures { Spec.refusal_of_sum result ≡ Spec.row_refusal (concat (only.now ∷ [])) n 0 1 }
 {
-    let none: f32 = 0.0;
     check_transition(only, n, false)?;
-    check_sum(none + probability(only[1]))
+    Ok(0.0 + probability(only[1]))
 }
 
-fn check_two(first: &Transition, last: &Transition, n: u64) -> Result<(), Refusal>
-    ensures { refusal_of result ≡ Spec.row_refusal (concat (first.now ∷ last.now ∷ [])) n 0 2 }
+fn sum_of_two(first: &Transition, last: &Transition, n: u64) -> Result<f32, Refusal>
+    ensures { Spec.refusal_of_sum result ≡ Spec.row_refusal (concat (first.now ∷ last.now ∷ [])) n 0 2 }
 {
-    let none: f32 = 0.0;
     check_transition(first, n, false)?;
-    let sum = none + probability(first[1]);
+    let sum = 0.0 + probability(first[1]);
     let seen = first[0] == last[0];
     check_transition(last, n, seen)?;
-    check_sum(sum + probability(last[1]))
+    Ok(sum + probability(last[1]))
 }
 
 // One turn a transition: its refusals, then its part of the sum.
-fn check_each<S: Seen>(row: &[Transition], n: u64, met: &mut S) -> Result<(), Refusal>
+fn sum_of_each<S: Seen>(row: &[Transition], n: u64, met: &mut S) -> Result<f32, Refusal>
     requires { S.Holds met.old (concat row.now) n 0 }
-    ensures { refusal_of result ≡ Spec.row_refusal (concat row.now) n 0 (length row.now) }
+    ensures { Spec.refusal_of_sum result ≡ Spec.row_refusal (concat row.now) n 0 (length row.now) }
 {
     let mut sum: f32 = 0.0;
     for (i, transition) in row.iter().enumerate() {
@@ -182,30 +180,37 @@ fn check_each<S: Seen>(row: &[Transition], n: u64, met: &mut S) -> Result<(), Re
         check_transition(transition, n, seen)?;
         sum += probability(transition[1]);
     }
-    check_sum(sum)
+    Ok(sum)
 }
 
 // With a clear mark for each target that there is.
-fn check_marked<const WORDS: usize>(row: &[Transition], n: u64) -> Result<(), Refusal>
+fn sum_of_marked<const WORDS: usize>(row: &[Transition], n: u64) -> Result<f32, Refusal>
     requires few_states { n ≤ state_max }
     requires room { n + 2 ≤ WORDS * 64 }
     requires few_words { WORDS ≤ ALL_MARKS }
-    ensures { refusal_of result ≡ Spec.row_refusal (concat row.now) n 0 (length row.now) }
+    ensures { Spec.refusal_of_sum result ≡ Spec.row_refusal (concat row.now) n 0 (length row.now) }
 {
-    check_each(row, n, &mut Marks { words: [0; WORDS] })
+    sum_of_each(row, n, &mut Marks { words: [0; WORDS] })
+}
+
+fn sum_of_row(row: &[Transition], n: u64) -> Result<f32, Refusal>
+    requires { n ≤ state_max }
+    ensures { Spec.refusal_of_sum result ≡ Spec.row_refusal (concat row.now) n 0 (length row.now) }
+{
+    match row {
+        [only] => sum_of_one(only, n),
+        [first, last] => sum_of_two(first, last, n),
+        _ if row.len() <= SHORT_ROW => sum_of_each(row, n, &mut LookBack),
+        _ if n <= FEW_STATES => sum_of_marked::<FEW_MARKS>(row, n),
+        _ => sum_of_marked::<ALL_MARKS>(row, n),
+    }
 }
 
 fn check_row(row: &[Transition], n: u64) -> Result<(), Refusal>
     requires { n ≤ state_max }
     ensures { refusal_of result ≡ Spec.row_refusal (concat row.now) n 0 (length row.now) }
 {
-    match row {
-        [only] => check_one(only, n),
-        [first, last] => check_two(first, last, n),
-        _ if row.len() <= SHORT_ROW => check_each(row, n, &mut LookBack),
-        _ if n <= FEW_STATES => check_marked::<FEW_MARKS>(row, n),
-        _ => check_marked::<ALL_MARKS>(row, n),
-    }
+    check_sum(sum_of_row(row, n)?)
 }
 
 impl Transitions<'_> {

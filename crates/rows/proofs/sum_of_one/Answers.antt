@@ -1,8 +1,7 @@
--- `check_one` meets its contract: no target stands before the first. Assumes nothing.
-use Rattle.std.proofs.Common.{◌∙◌}
+-- `sum_of_one` meets its contract: no target stands before the first. Assumes nothing.
 use Rattle.std.proofs.lemmas.Result.{err_from_is_err_and}
 use Rattle.rows.proofs.Rows.{one_stops, one_ends}
-use Rattle.rows.proofs.check_one.Goals as goal
+use Rattle.rows.proofs.sum_of_one.Goals as goal
 
 pub returns-in_err-check_transition : goal.returns-in_err-check_transition
 returns-in_err-check_transition c =
@@ -10,4 +9,4 @@ returns-in_err-check_transition c =
     rw (p.1, p.2) (one_stops _ _ c.told-only _ c.in_err-check_transition.ensures)
 
 pub returns : goal.returns
-returns c = c.check_sum.ensures ∙ rw c.probability.ensures (one_ends _ _ c.told-only c.in_ok-check_transition.ensures)
+returns c = rw c.probability.ensures (one_ends _ _ c.told-only c.in_ok-check_transition.ensures)

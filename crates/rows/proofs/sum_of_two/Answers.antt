@@ -1,8 +1,7 @@
--- `check_two` meets its contract: one target stands before the second. Assumes nothing.
-use Rattle.std.proofs.Common.{◌∙◌}
+-- `sum_of_two` meets its contract: one target stands before the second. Assumes nothing.
 use Rattle.std.proofs.lemmas.Result.{err_from_is_err_and}
 use Rattle.rows.proofs.Rows.{first_stops, last_stops, both_end}
-use Rattle.rows.proofs.check_two.Goals as goal
+use Rattle.rows.proofs.sum_of_two.Goals as goal
 
 pub returns-in_err-check_transition : goal.returns-in_err-check_transition
 returns-in_err-check_transition c =
@@ -17,5 +16,5 @@ returns-in_err-check_transition-2 c =
 
 pub returns : goal.returns
 returns c =
-    c.check_sum.ensures ∙ rw (c.probability.ensures, c.probability-2.ensures)
+    rw (c.probability-sum.ensures, c.probability.ensures)
     (both_end _ _ _ c.told-first c.told-last c.in_ok-check_transition.ensures c.in_ok-check_transition-2.ensures)

@@ -2,7 +2,7 @@ use Rattle.std.proofs.Common.{◌≡◌, length}
 use Rattle.std.specs.List.{concat}
 use Rattle.rows.specs.Row.{row_refusal}
 use Rattle.rows.proofs.Rows.{rest}
-use Rattle.rows.proofs.check_each.Given as goal
+use Rattle.rows.proofs.sum_of_each.Given as goal
 
 abbrev pub invariant-loop-i : goal.invariant-loop-i
 invariant-loop-i g l =
