@@ -2,15 +2,17 @@
 ghost use Rattle.std.specs.Prelude.{◌≤◌};
 
 use super::answer::at_most_max;
-use super::input::{Accepted, Batch, Tapes};
+use super::input::{self, Batch};
 use super::judge::{MARK, refused_call, refused_opening};
 use super::tally::{Difference, Tally};
 use corpus::OUTPUT_WORDS;
 use machine::constants::{MACHINE_WORDS, NUM_STATES, ROW_WORDS};
 use machine::event::NORMAL_SENT;
+use machine::source::Tapes;
 use machine::tables::Tables;
 use refusal::Refusal;
 use steps::{Framework, Opened};
+use stream::Input;
 
 // The damages, in the order of the numbers by which a difference prints them, from 1 on.
 #[derive(Clone, Copy, PartialEq, Eq)]
@@ -158,18 +160,19 @@ fn batch(damage: Damage, fw: &Framework, tables: Tables, refusal: u64) -> Result
 }
 
 // The same of an opening whose machine table is a word short.
-fn opening(input: Accepted, tables: Tables, refusal: u64) -> Result<(), Difference> {
-    let o = input.opening(Damage::ShortMachines.tables(tables), 1, &[1.0; 16]);
+fn opening(lent: &Input, tables: Tables, refusal: u64) -> Result<(), Difference> {
+    let damaged = Damage::ShortMachines.tables(tables);
+    let o = input::opening(lent, &damaged, 1, &[1.0; 16]);
     refused_opening(refusal, &o)
 }
 
-fn on_accepted(tally: &mut Tally, fw: &Framework, input: Accepted) {
-    let tables = input.tables();
+fn on_accepted(tally: &mut Tally, fw: &Framework, lent: &Input) {
+    let tables = lent.tables();
     for damage in OF_ACCEPTED {
         if damage.applies(tables) {
             let refusal = damage.refusal().into();
             let judged = if damage == Damage::ShortOpening {
-                opening(input, tables, refusal)
+                opening(lent, tables, refusal)
             } else {
                 batch(damage, fw, tables, refusal)
             };
@@ -179,12 +182,12 @@ fn on_accepted(tally: &mut Tally, fw: &Framework, input: Accepted) {
 }
 
 // After the opening of an input.
-pub fn damaged_calls(tally: &mut Tally, input: Accepted, o: &Opened) {
+pub fn damaged_calls(tally: &mut Tally, lent: &Input, o: &Opened) {
     let fw = &o.framework;
-    let tables = input.tables();
+    let tables = lent.tables();
     // a number: it crosses to C
     match o.refusal {
-        0 => on_accepted(tally, fw, input),
+        0 => on_accepted(tally, fw, lent),
         // the framework's own fractions, which a batch does not have
         1 | 2 => {}
         3..=15 => {

@@ -27,7 +27,7 @@ fn ended_as_it_is(fw: &Framework) -> bool {
         .iter()
         .filter(|r| r.current_state == STATE_END)
         .count();
-    fw.ended == ended as u64 && framework::all_machines_ended(*fw) == (ended == machines.len())
+    fw.ended == ended as u64 && framework::all_machines_ended(fw) == (ended == machines.len())
 }
 
 // Whether the output from a place on is as it was.

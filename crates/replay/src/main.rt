@@ -13,9 +13,11 @@ ghost use Rattle.std.specs.Prelude.{◌≤◌, length};
 
 use answer::at_most_max;
 use corpus::{ANSWER, Broken, INPUT, OUTPUT_WORDS};
-use input::{Accepted, Batch, Tapes};
+use input::Batch;
 use machine::constants::ROW_WORDS;
+use machine::source::Tapes;
 use steps::{Answer, Framework};
+use stream::Input;
 use tally::{Difference, Tally};
 
 // More cases than a corpus has.
@@ -40,7 +42,7 @@ fn replay_call(tally: &mut Tally, call: u64, batch: &Batch) -> Result<Answer, Br
 #[tactic(auto, using(stream::specs::Inside::call_inside), unfolding(stream::specs::Stream::call_at))]
 fn replay_calls<'a>(
     tally: &mut Tally,
-    input: Accepted<'a>,
+    input: Input<'a>,
     opened: Framework,
     left: Tapes<'a>,
 ) -> Result<(), BrokenAt> {
@@ -52,14 +54,14 @@ fn replay_calls<'a>(
         events: &[],
         tapes: left,
     };
-    let mut at = stream::parts(words).calls;
+    let mut at = input.first_call();
     for i in 0..stream::word(words, 8) {
         let call = stream::call_at(words, at);
         batch.time = call.time;
         batch.events = stream::events_at(words, at);
         let a = replay_call(tally, i + 1, &batch)?;
         batch.framework = a.framework;
-        batch.tapes = batch.tapes.after(a.chance_used, a.value_used);
+        batch.tapes = input::behind(batch.tapes, a.chance_used, a.value_used);
         at = call.next;
     }
     Ok(())
@@ -68,29 +70,29 @@ fn replay_calls<'a>(
 // The opening of an input and its calls.
 fn replay_run(
     tally: &mut Tally,
-    input: Accepted,
+    input: Input,
     tapes: Tapes,
     theirs: &[u64; ANSWER],
 ) -> Result<(), BrokenAt> {
     let tables = input.tables();
     let time = stream::word(input.words, 2);
-    let o = input.opening(tables, time, tapes.values);
+    let o = input::opening(&input, &tables, time, tapes.values);
     tally.recorded(0, judge::opening(&o, theirs, tables));
-    damage::damaged_calls(tally, input, &o);
+    damage::damaged_calls(tally, &input, &o);
     if theirs[0] != 0 {
         return Ok(());
     }
-    let left = tapes.after(o.chance_used, o.value_used);
+    let left = input::behind(tapes, o.chance_used, o.value_used);
     replay_calls(tally, input, o.framework, left)
 }
 
 // An input with its tapes as floats.
 #[tactic(auto, using(stream::specs::Inside::tapes_inside))]
-fn replay_input(tally: &mut Tally, input: Accepted, theirs: &[u64; ANSWER]) -> Result<(), BrokenAt>
+fn replay_input(tally: &mut Tally, input: Input, theirs: &[u64; ANSWER]) -> Result<(), BrokenAt>
     requires { length input.words.now ≤ INPUT }
 {
-    let chance_words = stream::chance_words(input.words);
-    let value_words = stream::value_words(input.words);
+    let chance_words = input.chances();
+    let value_words = input.values();
     let mut chances = [0.0f32; INPUT];
     let mut values = [0.0f64; INPUT];
     text::put_chances(chance_words, &mut chances);
@@ -127,7 +129,7 @@ fn replay_case(tally: &mut Tally, words: &[u64]) -> Result<(), BrokenAt>
 {
     let mut theirs = [0u64; ANSWER];
     read_opening(words, &mut theirs).map_err(|_| BrokenAt(0))?;
-    match Accepted::new(words) {
+    match Input::of(words) {
         Ok(input) => replay_input(tally, input, &theirs),
         Err(refusal) => {
             tally.recorded(0, judge::refused_input(refusal.into(), &theirs));
@@ -140,11 +142,11 @@ fn replay_case(tally: &mut Tally, words: &[u64]) -> Result<(), BrokenAt>
 fn replay_all(tally: &mut Tally) -> Result<(), BrokenAt> {
     for _ in 0..CASES {
         let mut words = [0u64; INPUT];
-        let Some(input) = corpus::read_input(&mut words) else {
+        let Some(found) = corpus::read_input(&mut words) else {
             return Ok(());
         };
         tally.next_case();
-        let count = input.map_err(|_| BrokenAt(0))?;
+        let count = found.map_err(|_| BrokenAt(0))?;
         replay_case(tally, &words[..count])?;
     }
     Ok(())

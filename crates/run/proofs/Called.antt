@@ -18,7 +18,7 @@ use Rattle.steps.specs.Framework.{batch}
 use Rattle.steps.specs.Events.{Tables}
 use Rattle.steps.specs.declared.Framework.{Framework}
 use Rattle.steps.specs.declared.Answer.{Answer}
-use Rattle.events.specs.Run.{tables}
+use Rattle.machine.specs.Tables.{tables}
 use Rattle.run.specs.declared.Standing.{Standing}
 use Rattle.run.specs.Run.{stand, batch_at, stands_after, printed}
 use Rattle.steps.proofs.Printable as printable

@@ -9,7 +9,7 @@ use Rattle.steps.specs.Events.{Tables}
 use Rattle.steps.specs.Framework.{Batch, batch, opening}
 use Rattle.steps.specs.declared.Framework.{Framework}
 use Rattle.steps.specs.declared.Opened.{Opened}
-use Rattle.events.specs.Run.{tables}
+use Rattle.machine.specs.Tables.{tables}
 use Rattle.run.specs.declared.Standing.{Standing}
 use Rattle.run.specs.declared.Started.{Started}
 

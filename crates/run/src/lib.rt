@@ -61,9 +61,7 @@ pub fn start(input: &Input, values: &[f64]) -> Started
         numbers::f64_of_word(stream::word(words, 0)),
         numbers::f64_of_word(stream::word(words, 1)),
         stream::word(words, 2),
-        input.machines(),
-        input.states(),
-        input.transitions(),
+        &input.tables(),
         values,
     );
     Started {
@@ -93,9 +91,7 @@ pub fn one_call(lent: &Lent, i: u64, s: Standing, line: &mut [u8]) -> Rendered
     let mut rows = [0u64; OUTPUT_WORDS];
     let a = framework::batch(
         s.framework,
-        input.machines(),
-        input.states(),
-        input.transitions(),
+        &input.tables(),
         call.time,
         stream::events_at(input.words, s.next),
         &lent.chances[s.chance..],

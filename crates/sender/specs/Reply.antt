@@ -17,17 +17,6 @@ use Rattle.sender.specs.declared.ReplyWords.{ReplyWords}
 abbrev pub reply_of : Answer → Reply
 reply_of a = record { refusal = a.refusal; actions = a.actions; chance_used = a.chance_used; value_used = a.value_used }
 
--- what both kinds of batch share: `raw` asks 24, and the source is the one that is lent
-abbrev pub batch_by : Bool → Framework → Tables → ℕ → List ℕ → Source Place → List ℕ → Batch
-batch_by raw x T time es D out =
-    cond (raw && outside_refused (tables_refusal T.machines T.states T.transitions) T) (refused x out 24) (batch x T time es D out)
-
--- what a batch whose answer and output are b leaves: the framework y, the reply r and the output z
-pub record Left (b : Batch) (y : Framework) (r : Reply) (z : List ℕ) : Type 0 where
-  pub framework : y ≡ b.answer.framework
-  pub reply : r ≡ reply_of b.answer
-  pub output : z ≡ b.out
-
 -- of a batch on the framework x, with the tables, time, events, source of draws and output that were lent: the framework y, the
 -- reply r and the output z that it leaves
 pub record Promised (x : Framework) (T : Tables) (time : ℕ) (es : List ℕ) (D : Source Place) (out : List ℕ) (y : Framework) (r : Reply) (z : List ℕ) : Type 0 where

@@ -182,12 +182,12 @@ pub extern "C" fn maybenot_sheet_write(
     ensures { Writes machines.now states.now transitions.now sheet.old
         result sheet.new }
 {
-    let tables = machine::tables::Tables {
+    let t = Tables {
         machines,
         states,
         transitions,
     };
-    sheet::write(&tables, sheet)
+    sheet::write(&t, sheet)
 }
 
 // Puts the rows of a batch into out, in the order in which they fall due.

@@ -5,7 +5,8 @@ ghost use Rattle.std.specs.Prelude.{◌≡◌, ◌++◌, ◌≤◌, length, drop
 ghost use Rattle.sheet_check.specs.Verdict.{verdict_line, judged_line, report_line, line_length};
 
 use machine::constants::{MACHINE_WORDS, STATE_WORDS, TRANSITION_WORDS};
-use refusal::Refusal;
+use machine::tables::Tables;
+use refusal::{Refusal, number};
 use sheet::SheetRows;
 use sheet::line::{MACHINE_LINE, STATE_LINE, TRANSITION_LINE};
 
@@ -50,8 +51,12 @@ fn judge(
     let m = MACHINE_WORDS * r.machines as usize;
     let s = STATE_WORDS * r.states as usize;
     let t = TRANSITION_WORDS * r.transitions as usize;
-    let refusal = tables::check_tables(&machines[..m], &states[..s], &transitions[..t]);
-    verdict_line(line, r, refusal);
+    let read = Tables {
+        machines: &machines[..m],
+        states: &states[..s],
+        transitions: &transitions[..t],
+    };
+    verdict_line(line, r, number(tables::check_tables(&read)));
 }
 
 // The line of a sheet of any length.

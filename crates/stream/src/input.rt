@@ -16,6 +16,7 @@ ghost use Rattle.stream.specs.Stream.{
 ghost use Rattle.stream.specs.Within.{Ordered};
 
 use super::{HEADER_WORDS, Layout, check, parts};
+use machine::tables::Tables;
 use refusal::Refusal;
 
 // Words that the check accepts, and where their parts start.
@@ -71,6 +72,19 @@ impl<'a> Input<'a> {
         &self.words[self.layout.transitions..self.layout.chances]
     }
 
+    // The three as what a call is lent.
+    pub fn tables(&self) -> Tables<'a>
+        ensures machines { result.machines.now ≡ machine_table self.now.words.now }
+        ensures states { result.states.now ≡ state_table self.now.words.now }
+        ensures transitions { result.transitions.now ≡ transition_table self.now.words.now }
+    {
+        Tables {
+            machines: self.machines(),
+            states: self.states(),
+            transitions: self.transitions(),
+        }
+    }
+
     // The words of the chance draws and of the value draws.
     #[tactic(auto, unfolding(crate::specs::Stream::chance_words, crate::specs::Stream::values_at))]
     pub fn chances(&self) -> &'a [u64]
@@ -85,6 +99,7 @@ impl<'a> Input<'a> {
     {
         &self.words[self.layout.values..self.layout.calls]
     }
+
     // Where the first call starts.
     pub fn first_call(&self) -> usize
         ensures { result ≡ calls_at self.now.words.now }

@@ -8,6 +8,9 @@ ghost use Rattle.std.specs.Prelude.{◌≤◌};
 
 const STDOUT_FILENO: i32 = 1;
 
+use machine::tables::Tables;
+use refusal::number;
+
 use machine::constants::{
     ACTION, COUNTER_A, COUNTER_B, COUNTER_DIST, DURATION, EVENT_NUM, EVENTS, FIRST_STATE, FLAGS,
     LIMIT, MACHINE_MAX, MACHINE_WORDS, MAX_BLOCKING_FRAC, MAX_PADDING_FRAC, NUM_STATES,
@@ -220,11 +223,15 @@ fn say(answer: u64, refusal: u64) {
 }
 
 fn fractions_number(padding: f64, blocking: f64) -> u64 {
-    tables::check_fractions(padding, blocking)
+    number(tables::check_fractions(padding, blocking))
 }
 
 fn tables_number(machines: &[u64], states: &[u64], transitions: &[u64]) -> u64 {
-    tables::check_tables(machines, states, transitions)
+    number(tables::check_tables(&Tables {
+        machines,
+        states,
+        transitions,
+    }))
 }
 
 // The answer to the first m, s and t words of the three tables.

@@ -13,7 +13,7 @@ returns c =
     let call = c.call_at-call in
     let b = c.batch-a in
     let e =
-    answered ws s call.result _ _ _ _ _ _ call.ensures c.machines.ensures c.states.ensures c.transitions.ensures c.events_at.ensures lent.chances_are
+    answered ws s call.result _ _ _ _ _ _ call.ensures c.tables.ensures.machines c.tables.ensures.states c.tables.ensures.transitions c.events_at.ensures lent.chances_are
     lent.values_are in
     let a : b.result ≡ (batch_at ws s).answer = b.ensures.0 ∙ ap (λ (x : Batch). x.answer) e in
     let t = c.call_text-bytes in
