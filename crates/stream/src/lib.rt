@@ -152,6 +152,7 @@ fn between(words: &[u64], from: usize, to: usize) -> &[u64]
 }
 
 // The parts of accepted words, each as the `Input` of these words has it.
+// beside `Input`'s methods: public functions, named in docs/MAP.md, for callers that hold checked words
 pub fn machine_table(words: &[u64]) -> &[u64]
     requires { check_of words.now ≡ 0 }
     ensures { result.now ≡ machine_table words.now }
