@@ -79,7 +79,5 @@ pub fn draws_outside(t: &Tables) -> bool
     ensures { result ≡ Spec.draws_outside t.now.machines.now t.now.states.now }
 {
     let (machines, _) = t.machines.as_chunks::<MACHINE_WORDS>();
-    machines
-        .iter()
-        .any(|machine| machine_outside(machine, t.states))
+    machines.iter().any(|row| machine_outside(row, t.states))
 }

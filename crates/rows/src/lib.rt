@@ -152,68 +152,65 @@ fn check_sum(sum: f32) -> Result<(), Refusal>
 
 // ---- a row: the sum of its probabilities, or the first refusal of its transitions
 
-fn sum_of_one(only: &Transition, n: u64) -> Result<f32, Refusal>
-    ensures { Spec.refusal_of_sum result ≡ Spec.row_refusal (concat (only.now ∷ [])) n 0 1 }
-{
-    check_transition(only, n, false)?;
-    Ok(0.0 + probability(only[1]))
-}
-
-fn sum_of_two(first: &Transition, last: &Transition, n: u64) -> Result<f32, Refusal>
-    ensures { Spec.refusal_of_sum result ≡ Spec.row_refusal (concat (first.now ∷ last.now ∷ [])) n 0 2 }
-{
-    check_transition(first, n, false)?;
-    let sum = 0.0 + probability(first[1]);
-    let seen = first[0] == last[0];
-    check_transition(last, n, seen)?;
-    Ok(sum + probability(last[1]))
-}
-
-// One turn a transition: its refusals, then its part of the sum.
-fn sum_of_each<S: Seen>(row: &[Transition], n: u64, met: &mut S) -> Result<f32, Refusal>
-    requires { S.Holds met.old (concat row.now) n 0 }
-    ensures { Spec.refusal_of_sum result ≡ Spec.row_refusal (concat row.now) n 0 (length row.now) }
-{
-    let mut sum: f32 = 0.0;
-    for (i, transition) in row.iter().enumerate() {
-        let seen = met.seen(row, n, i);
-        check_transition(transition, n, seen)?;
-        sum += probability(transition[1]);
-    }
-    Ok(sum)
-}
-
-// With a clear mark for each target that there is.
-fn sum_of_marked<const WORDS: usize>(row: &[Transition], n: u64) -> Result<f32, Refusal>
-    requires few_states { n ≤ state_max }
-    requires room { n + 2 ≤ WORDS * 64 }
-    requires few_words { WORDS ≤ ALL_MARKS }
-    ensures { Spec.refusal_of_sum result ≡ Spec.row_refusal (concat row.now) n 0 (length row.now) }
-{
-    sum_of_each(row, n, &mut Marks { words: [0; WORDS] })
-}
-
-fn sum_of_row(row: &[Transition], n: u64) -> Result<f32, Refusal>
-    requires { n ≤ state_max }
-    ensures { Spec.refusal_of_sum result ≡ Spec.row_refusal (concat row.now) n 0 (length row.now) }
-{
-    match row {
-        [only] => sum_of_one(only, n),
-        [first, last] => sum_of_two(first, last, n),
-        _ if row.len() <= SHORT_ROW => sum_of_each(row, n, &mut LookBack),
-        _ if n <= FEW_STATES => sum_of_marked::<FEW_MARKS>(row, n),
-        _ => sum_of_marked::<ALL_MARKS>(row, n),
-    }
-}
-
-fn check_row(row: &[Transition], n: u64) -> Result<(), Refusal>
-    requires { n ≤ state_max }
-    ensures { refusal_of result ≡ Spec.row_refusal (concat row.now) n 0 (length row.now) }
-{
-    check_sum(sum_of_row(row, n)?)
-}
-
 impl Transitions<'_> {
+    fn sum_of_one(&self, only: &Transition) -> Result<f32, Refusal>
+        ensures { Spec.refusal_of_sum result ≡ Spec.row_refusal (concat (only.now ∷ [])) self.now.states 0 1 }
+    {
+        check_transition(only, self.states, false)?;
+        Ok(0.0 + probability(only[1]))
+    }
+
+    fn sum_of_two(&self, first: &Transition, last: &Transition) -> Result<f32, Refusal>
+        ensures { Spec.refusal_of_sum result ≡ Spec.row_refusal (concat (first.now ∷ last.now ∷ [])) self.now.states 0 2 }
+    {
+        check_transition(first, self.states, false)?;
+        let sum = 0.0 + probability(first[1]);
+        let seen = first[0] == last[0];
+        check_transition(last, self.states, seen)?;
+        Ok(sum + probability(last[1]))
+    }
+
+    // One turn a transition: its refusals, then its part of the sum.
+    fn sum_of_each<S: Seen>(&self, row: &[Transition], met: &mut S) -> Result<f32, Refusal>
+        requires { S.Holds met.old (concat row.now) self.now.states 0 }
+        ensures { Spec.refusal_of_sum result ≡ Spec.row_refusal (concat row.now) self.now.states 0 (length row.now) }
+    {
+        let mut sum: f32 = 0.0;
+        for (i, transition) in row.iter().enumerate() {
+            let seen = met.seen(row, self.states, i);
+            check_transition(transition, self.states, seen)?;
+            sum += probability(transition[1]);
+        }
+        Ok(sum)
+    }
+
+    // With a clear mark for each target that there is.
+    fn sum_of_marked<const WORDS: usize>(&self, row: &[Transition]) -> Result<f32, Refusal>
+        requires room { self.now.states + 2 ≤ WORDS * 64 }
+        requires few_words { WORDS ≤ ALL_MARKS }
+        ensures { Spec.refusal_of_sum result ≡ Spec.row_refusal (concat row.now) self.now.states 0 (length row.now) }
+    {
+        self.sum_of_each(row, &mut Marks { words: [0; WORDS] })
+    }
+
+    fn sum_of_row(&self, row: &[Transition]) -> Result<f32, Refusal>
+        ensures { Spec.refusal_of_sum result ≡ Spec.row_refusal (concat row.now) self.now.states 0 (length row.now) }
+    {
+        match row {
+            [only] => self.sum_of_one(only),
+            [first, last] => self.sum_of_two(first, last),
+            _ if row.len() <= SHORT_ROW => self.sum_of_each(row, &mut LookBack),
+            _ if self.states <= FEW_STATES => self.sum_of_marked::<FEW_MARKS>(row),
+            _ => self.sum_of_marked::<ALL_MARKS>(row),
+        }
+    }
+
+    fn check_row(&self, row: &[Transition]) -> Result<(), Refusal>
+        ensures { refusal_of result ≡ Spec.row_refusal (concat row.now) self.now.states 0 (length row.now) }
+    {
+        check_sum(self.sum_of_row(row)?)
+    }
+
     // A pair (first, count): that its rows are within the table, then each. With a count of 0 it has none.
     pub fn check_pair(&self, first: u64, count: u64) -> Result<(), Refusal>
         ensures { refusal_of result ≡ Spec.pair_refusal self.now.words.now self.now.states first count }
@@ -222,7 +219,7 @@ impl Transitions<'_> {
             return Ok(());
         }
         match rows_within(self.words, first, count) {
-            Some(row) => check_row(row, self.states),
+            Some(row) => self.check_row(row),
             None => Err(Refusal::RowBeyondTable),
         }
     }

@@ -40,14 +40,12 @@ fn check_states(t: &Tables, first: u64, n: u64) -> Result<(), Refusal>
     if n == 0 || n > STATE_MAX {
         return Err(Refusal::StateCount);
     }
+    let transitions = Transitions {
+        words: t.transitions,
+        states: n,
+    };
     match rows::rows_within(t.states, first, n) {
-        Some(rows) => check_each_state(
-            rows,
-            &Transitions {
-                words: t.transitions,
-                states: n,
-            },
-        ),
+        Some(rows) => check_each_state(rows, &transitions),
         None => Err(Refusal::StatesBeyondTable),
     }
 }

@@ -29,7 +29,7 @@ fn check_events(row: &Row, transitions: &Transitions) -> Result<(), Refusal>
     Ok(())
 }
 
-// ---- refusal 14: codes
+// ---- refusal 14: codes, which stay words: C lends them so
 
 // The kind of a distribution that the action needs.
 #[tactic(auto, unfolding(crate::specs::State::needed_unknown))]

@@ -1,9 +1,9 @@
--- `sum_of_each` meets its contract. The loop's invariant: what is kept is that of the transitions before i, and the answer is
+-- `Transitions::sum_of_each` meets its contract. The loop's invariant: what is kept is that of the transitions before i, and the answer is
 -- what is left of the check from transition i on. Assumes nothing.
 use Rattle.std.proofs.Common.{sym, ◌∙◌}
 use Rattle.std.proofs.lemmas.Result.{err_from_is_err_and}
 use Rattle.rows.proofs.Rows.{row_starts, row_ends, turn_stops, turn_has, turn_on}
-use Rattle.rows.proofs.sum_of_each.Goals as goal
+use Rattle.rows.proofs.Transitions.sum_of_each.Goals as goal
 
 pub loop-i-init : goal.loop-i-init
 loop-i-init g c = (c.requires, row_starts _ _ _)

@@ -1,7 +1,7 @@
--- `sum_of_one` meets its contract: no target stands before the first. Assumes nothing.
+-- `Transitions::sum_of_one` meets its contract: no target stands before the first. Assumes nothing.
 use Rattle.std.proofs.lemmas.Result.{err_from_is_err_and}
 use Rattle.rows.proofs.Rows.{one_stops, one_ends}
-use Rattle.rows.proofs.sum_of_one.Goals as goal
+use Rattle.rows.proofs.Transitions.sum_of_one.Goals as goal
 
 pub returns-in_err-check_transition : goal.returns-in_err-check_transition
 returns-in_err-check_transition c =

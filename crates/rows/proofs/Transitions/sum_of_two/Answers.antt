@@ -1,7 +1,7 @@
--- `sum_of_two` meets its contract: one target stands before the second. Assumes nothing.
+-- `Transitions::sum_of_two` meets its contract: one target stands before the second. Assumes nothing.
 use Rattle.std.proofs.lemmas.Result.{err_from_is_err_and}
 use Rattle.rows.proofs.Rows.{first_stops, last_stops, both_end}
-use Rattle.rows.proofs.sum_of_two.Goals as goal
+use Rattle.rows.proofs.Transitions.sum_of_two.Goals as goal
 
 pub returns-in_err-check_transition : goal.returns-in_err-check_transition
 returns-in_err-check_transition c =
