@@ -16,7 +16,7 @@ ghost use Rattle.framework.specs.Answers as Answers;
 
 use events::run_events;
 use machine::constants::{MACHINE_MAX, MACHINE_WORDS, ROW_WORDS};
-use machine::source::{Draw, Draws, Tapes, Words};
+use machine::source::{Draws, Tapes, Words};
 use machine::tables::Tables;
 use refusal::Refusal;
 use signals::run_signals;
@@ -28,56 +28,6 @@ mod start; // the machines of an opening
 
 // ---- the opening
 
-// What an opening refuses before it draws: the fractions, then the tables.
-#[tactic(auto, unfolding(steps::specs::Framework::or_else))]
-fn check_opening(
-    max_padding_frac: f64,
-    max_blocking_frac: f64,
-    t: &Tables,
-) -> Result<(), Refusal>
-    ensures { refusal_of result ≡ Spec.open_refusal (lent_tables t.now) max_padding_frac max_blocking_frac }
-{
-    tables::check_fractions(max_padding_frac, max_blocking_frac)?;
-    tables::check_tables(t)
-}
-
-// An opening that draws from two tapes.
-fn open(
-    max_padding_frac: f64,
-    max_blocking_frac: f64,
-    time: u64,
-    t: &Tables,
-    values: &[f64],
-) -> Result<Draw<Framework>, Refusal>
-    ensures { Answers.opened result ≡ Spec.opening (lent_tables t.now) max_padding_frac max_blocking_frac time (tapes [] values.now) }
-{
-    check_opening(max_padding_frac, max_blocking_frac, t)?;
-    let chances: [f32; 0] = [];
-    let draws = Tapes {
-        chances: &chances,
-        values,
-    };
-    start::open_machines(max_padding_frac, max_blocking_frac, time, t, &draws)
-}
-
-// The same from raw words: 24 after the table checks.
-fn open_words(
-    max_padding_frac: f64,
-    max_blocking_frac: f64,
-    time: u64,
-    t: &Tables,
-    words: &[u64],
-) -> Result<Draw<Framework>, Refusal>
-    ensures { opened_in_words (Answers.opened result) ≡ opening_words (lent_tables t.now) max_padding_frac max_blocking_frac time words.now }
-{
-    check_opening(max_padding_frac, max_blocking_frac, t)?;
-    if outside::draws_outside(t) {
-        return Err(Refusal::DrawnOutside);
-    }
-    let draws = Words { words };
-    start::open_machines(max_padding_frac, max_blocking_frac, time, t, &draws)
-}
-
 // Framework::new.
 pub fn opening(
     max_padding_frac: f64,
@@ -88,7 +38,13 @@ pub fn opening(
 ) -> Opened
     ensures { result ≡ Spec.opening (lent_tables t.now) max_padding_frac max_blocking_frac time (tapes [] values.now) }
 {
-    start::opened(open(max_padding_frac, max_blocking_frac, time, t, values))
+    start::opened(start::open(
+        max_padding_frac,
+        max_blocking_frac,
+        time,
+        t,
+        values,
+    ))
 }
 
 // The same from raw words.
@@ -101,7 +57,7 @@ pub fn opening_words(
 ) -> OpenedWords
     ensures { result ≡ opening_words (lent_tables t.now) max_padding_frac max_blocking_frac time words.now }
 {
-    let o = start::opened(open_words(
+    let o = start::opened(start::open_words(
         max_padding_frac,
         max_blocking_frac,
         time,

@@ -1,13 +1,16 @@
 // The machines of an opening: each begins in state 0, with the limit that its start state draws.
-ghost use Rattle.std.specs.Prelude.{◌≡◌, ◌≤◌, ◌<◌};
+ghost use Rattle.std.specs.Prelude.{◌≡◌, [], ◌≤◌, ◌<◌};
+ghost use Rattle.refusal.specs.Refusal.{refusal_of};
 ghost use Rattle.machine.specs.Constants.{machine_max};
 ghost use Rattle.machine.specs.Tables.{lent_tables};
-ghost use Rattle.steps.specs.Framework.{new_framework, new_runtime, start_limit, open_machine, rows_in, open_run, opened_by};
+ghost use Rattle.steps.specs.Framework.{new_framework, new_runtime, start_limit, open_machine, rows_in, open_run, opened_by, open_refusal, opening};
+ghost use Rattle.steps.specs.Words.{opened_in_words, opening_words};
+ghost use Rattle.machine.specs.Source.{tapes};
 ghost use Rattle.framework.specs.Answers as Answers;
 
 use account::states_of;
 use machine::constants::{ACTION, ALLOWED_BLOCKED_MICROSEC, MACHINE_WORDS, NO_ACTION};
-use machine::source::{Draw, Draws, Place};
+use machine::source::{Draw, Draws, Place, Tapes, Words};
 use machine::state::{state_row, word};
 use machine::tables::Tables;
 use refusal::Refusal;
@@ -140,4 +143,54 @@ pub fn open_machines<D: Draws>(
         at = opened.at;
     }
     Ok(Draw { value: f, at })
+}
+
+// What an opening refuses before it draws: the fractions, then the tables.
+#[tactic(auto, unfolding(steps::specs::Framework::or_else))]
+fn check_opening(
+    max_padding_frac: f64,
+    max_blocking_frac: f64,
+    t: &Tables,
+) -> Result<(), Refusal>
+    ensures { refusal_of result ≡ open_refusal (lent_tables t.now) max_padding_frac max_blocking_frac }
+{
+    tables::check_fractions(max_padding_frac, max_blocking_frac)?;
+    tables::check_tables(t)
+}
+
+// An opening that draws from two tapes.
+pub fn open(
+    max_padding_frac: f64,
+    max_blocking_frac: f64,
+    time: u64,
+    t: &Tables,
+    values: &[f64],
+) -> Result<Draw<Framework>, Refusal>
+    ensures { Answers.opened result ≡ opening (lent_tables t.now) max_padding_frac max_blocking_frac time (tapes [] values.now) }
+{
+    check_opening(max_padding_frac, max_blocking_frac, t)?;
+    let chances: [f32; 0] = [];
+    let draws = Tapes {
+        chances: &chances,
+        values,
+    };
+    open_machines(max_padding_frac, max_blocking_frac, time, t, &draws)
+}
+
+// The same from raw words: 24 after the table checks.
+pub fn open_words(
+    max_padding_frac: f64,
+    max_blocking_frac: f64,
+    time: u64,
+    t: &Tables,
+    words: &[u64],
+) -> Result<Draw<Framework>, Refusal>
+    ensures { opened_in_words (Answers.opened result) ≡ opening_words (lent_tables t.now) max_padding_frac max_blocking_frac time words.now }
+{
+    check_opening(max_padding_frac, max_blocking_frac, t)?;
+    if outside::draws_outside(t) {
+        return Err(Refusal::DrawnOutside);
+    }
+    let draws = Words { words };
+    open_machines(max_padding_frac, max_blocking_frac, time, t, &draws)
 }
