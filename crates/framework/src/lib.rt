@@ -38,13 +38,7 @@ pub fn opening(
 ) -> Opened
     ensures { result ≡ Spec.opening (lent_tables t.now) max_padding_frac max_blocking_frac time (tapes [] values.now) }
 {
-    start::opened(start::open(
-        max_padding_frac,
-        max_blocking_frac,
-        time,
-        t,
-        values,
-    ))
+    start::opened(start::open(max_padding_frac, max_blocking_frac, time, t, values))
 }
 
 // The same from raw words.
@@ -57,13 +51,7 @@ pub fn opening_words(
 ) -> OpenedWords
     ensures { result ≡ opening_words (lent_tables t.now) max_padding_frac max_blocking_frac time words.now }
 {
-    let o = start::opened(start::open_words(
-        max_padding_frac,
-        max_blocking_frac,
-        time,
-        t,
-        words,
-    ));
+    let o = start::opened(start::open_words(max_padding_frac, max_blocking_frac, time, t, words));
     OpenedWords {
         refusal: o.refusal,
         words_used: o.value_used,

@@ -147,11 +147,7 @@ pub fn open_machines<D: Draws>(
 
 // What an opening refuses before it draws: the fractions, then the tables.
 #[tactic(auto, unfolding(steps::specs::Framework::or_else))]
-fn check_opening(
-    max_padding_frac: f64,
-    max_blocking_frac: f64,
-    t: &Tables,
-) -> Result<(), Refusal>
+fn check_opening(max_padding_frac: f64, max_blocking_frac: f64, t: &Tables) -> Result<(), Refusal>
     ensures { refusal_of result ≡ open_refusal (lent_tables t.now) max_padding_frac max_blocking_frac }
 {
     tables::check_fractions(max_padding_frac, max_blocking_frac)?;

@@ -34,11 +34,7 @@ fn sample_rounded<D: Draws>(
 
 // Action::sample_timeout: of SendPadding and BlockOutgoing; 0, with no draw, for any other action.
 #[tactic(auto, unfolding(crate::specs::Action::sample_timeout))]
-pub fn sample_timeout<D: Draws>(
-    row: &[u64],
-    draws: &D,
-    at: Place,
-) -> Result<Draw<u64>, Refusal>
+pub fn sample_timeout<D: Draws>(row: &[u64], draws: &D, at: Place) -> Result<Draw<u64>, Refusal>
     ensures { result ≡ sample_timeout row.now (D.source draws.now).values at }
 {
     let action = word(row, ACTION);
@@ -50,11 +46,7 @@ pub fn sample_timeout<D: Draws>(
 
 // Action::sample_duration: of BlockOutgoing and UpdateTimer; 0, with no draw, for any other action.
 #[tactic(auto, unfolding(crate::specs::Action::sample_duration))]
-pub fn sample_duration<D: Draws>(
-    row: &[u64],
-    draws: &D,
-    at: Place,
-) -> Result<Draw<u64>, Refusal>
+pub fn sample_duration<D: Draws>(row: &[u64], draws: &D, at: Place) -> Result<Draw<u64>, Refusal>
     ensures { result ≡ sample_duration row.now (D.source draws.now).values at }
 {
     let action = word(row, ACTION);

@@ -1,12 +1,11 @@
 -- What a batch on the lent framework leaves: `Promised` on two tapes, `PromisedWords` on words. The contracts of the calls that change
 -- it in place and the theorem over such calls both cite these.
-use Rattle.std.specs.Prelude.{ℕ, Bool, cond, ◌&&◌, List, ◌≡◌}
+use Rattle.std.specs.Prelude.{ℕ, List, ◌≡◌}
 use Rattle.machine.specs.Source.{Source}
 use Rattle.machine.specs.declared.source.Place.{Place}
 use Rattle.steps.specs.Events.{Tables}
-use Rattle.tables.specs.Machine.{tables_refusal}
-use Rattle.steps.specs.Framework.{Batch, refused, batch}
-use Rattle.steps.specs.Words.{outside_refused, batch_words}
+use Rattle.steps.specs.Framework.{batch}
+use Rattle.steps.specs.Words.{batch_words}
 use Rattle.steps.specs.declared.Answer.{Answer}
 use Rattle.steps.specs.declared.AnswerWords.{AnswerWords}
 use Rattle.steps.specs.declared.Framework.{Framework}

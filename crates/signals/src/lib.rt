@@ -18,12 +18,7 @@ use transition::transition;
 
 // A machine hears a signal.
 #[tactic(auto, unfolding(steps::specs::Events::signal_machine))]
-fn signal_machine<D: Draws>(
-    x: &mut Run,
-    t: &Tables,
-    draws: &D,
-    m: usize,
-) -> Result<(), Refusal>
+fn signal_machine<D: Draws>(x: &mut Run, t: &Tables, draws: &D, m: usize) -> Result<(), Refusal>
     requires { m < machine_max }
     ensures is { left_as result x.new ≡ signal_machine (lent_tables t.now) (D.source draws.now) m x.old }
     ensures keeps { x.new.framework.machines ≡ x.old.framework.machines }
@@ -65,12 +60,7 @@ fn signal_turn<D: Draws>(
 
 // After a round for the signal `taken`: if that raised another, the machine left out hears it last, and what it raises stays
 // pending; with none left out that signal is dropped.
-fn last_signal<D: Draws>(
-    x: &mut Run,
-    t: &Tables,
-    draws: &D,
-    taken: u64,
-) -> Result<(), Refusal>
+fn last_signal<D: Draws>(x: &mut Run, t: &Tables, draws: &D, taken: u64) -> Result<(), Refusal>
     ensures is { left_as result x.new ≡ last_signal (lent_tables t.now) (D.source draws.now) taken x.old }
     ensures keeps { x.new.framework.machines ≡ x.old.framework.machines }
 {

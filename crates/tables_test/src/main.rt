@@ -8,14 +8,13 @@ ghost use Rattle.std.specs.Prelude.{◌≤◌};
 
 const STDOUT_FILENO: i32 = 1;
 
-use machine::tables::Tables;
-use refusal::number;
-
 use machine::constants::{
     ACTION, COUNTER_A, COUNTER_B, COUNTER_DIST, DURATION, EVENT_NUM, EVENTS, FIRST_STATE, FLAGS,
     LIMIT, MACHINE_MAX, MACHINE_WORDS, MAX_BLOCKING_FRAC, MAX_PADDING_FRAC, NUM_STATES,
     STATE_END as END, STATE_SIGNAL as SIGNAL, STATE_WORDS, TIMEOUT, TIMER, TRANSITION_WORDS,
 };
+use machine::tables::Tables;
+use refusal::number;
 
 // Bits of an f64: 0.5, 1, 2, -1, -0.0, infinity, a NaN, the lowest and the highest number.
 const HALF: u64 = 0x3fe0_0000_0000_0000;
