@@ -1,5 +1,5 @@
 // process_event of framework.rs, but for the machines' transitions: what an event counts, and which
-// machines hear it. Each function takes the numbers that it reads and never the framework.
+// machines hear it. The framework and the tables are lent, never handed over.
 #![tactic(auto)]
 
 ghost use Rattle.std.specs.Prelude.{◌≡◌, ◌+◌, ◌≤◌, ◌<◌};

@@ -86,9 +86,8 @@ fn long_turn<D: Draws>(
         action: x.actions[m],
         changed: false,
     };
-    let went = going(e, chosen, d)?;
-    let d = after_transition(e, falls, went)?;
-    store(x, m, d);
+    let stepped = after_transition(e, falls, going(e, chosen, d))?;
+    store(x, m, stepped);
     Ok(())
 }
 
@@ -131,7 +130,15 @@ fn machine_turn<D: Draws>(
         draws,
         context: context_of(t.machines, m, &x.framework),
     };
-    match short_way(&e, falls, choice.value, counted, &x.shared) {
+    match short_way(
+        rows,
+        draws,
+        &e.context,
+        falls,
+        choice.value,
+        counted,
+        &x.shared,
+    ) {
         Short::Elsewhere => long_turn(x, &e, falls, choice.value, counted, m),
         Short::Kept(d) => {
             x.framework.runtime[m] = runtime_after(counted, d);

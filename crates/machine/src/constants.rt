@@ -82,14 +82,6 @@ pub const UNIFORM: u64 = 1;
 
 pub const OUTSIDE: u64 = 2;
 
-// Refusals of a draw: beyond the tape's end, and one that is not fit.
-pub const NO_DRAW: u64 = 16;
-
-pub const UNFIT_DRAW: u64 = 17;
-
-// Refusal of a distribution that is drawn outside, in a call from raw words.
-pub const DRAWN_OUTSIDE: u64 = 24;
-
 // Codes of an action; the first is none.
 pub const NO_ACTION: u64 = 0;
 

@@ -1,8 +1,8 @@
 // A machine's turn after its choice, on the short way: to a state of the machine, where no counter
-// reports zero, no draw is refused and no limit falls. The loop over machines tries it first; where
-// it does not hold, `transition::going` says what follows. It is called in one place, so the compiler
-// works it out there; it answers what it may change and no more, since each word of an answer is
-// copied: docs/PERFORMANCE.md has what that saves.
+// reports zero, no draw is refused and no limit falls. A machine's turn tries it first; where it does
+// not hold, `transition::going` says what follows. It is called in one place, so the compiler works it
+// out there; it answers what it may change and no more, since each word of an answer is copied:
+// docs/PERFORMANCE.md has what that saves.
 ghost use Rattle.std.specs.Prelude.{◌≡◌};
 ghost use Rattle.moves.specs.Short as Spec;
 
@@ -13,7 +13,7 @@ use limits::below_action_limits;
 use machine::constants::{STATE_END, STATE_SIGNAL};
 use machine::source::{Draws, Place};
 use machine::state::state_row;
-use steps::{Counters, Env, MachineRuntime, Shared, Tally, TriggerAction, Zeroed};
+use steps::{Context, Counters, MachineRuntime, Shared, Tally, TriggerAction, Zeroed};
 
 // What a move to a state may change of its machine, and of what the call shares.
 #[derive(Clone, Copy)]
@@ -75,11 +75,17 @@ fn move_of(q: &MachineRuntime, t: &Tally, at: Place) -> Moved
 // After the counters: the action is scheduled where the limits allow it, which are judged with the
 // machine as it entered the state.
 #[tactic(auto, unfolding(crate::specs::Short::settle_in))]
-fn settle_in<D: Draws>(e: &Env<D>, row: &[u64], entered: &MachineRuntime, t: &Tally) -> Short
-    ensures { result ≡ Spec.settle_in row.now (D.source e.now.draws.now).values e.now.context entered.now t.now }
+fn settle_in<D: Draws>(
+    row: &[u64],
+    draws: &D,
+    c: &Context,
+    entered: &MachineRuntime,
+    t: &Tally,
+) -> Short
+    ensures { result ≡ Spec.settle_in row.now (D.source draws.now).values c.now entered.now t.now }
 {
-    if below_action_limits(&e.context, entered, row) {
-        let Ok(scheduled) = schedule_action(row, e.draws, t.place) else {
+    if below_action_limits(c, entered, row) {
+        let Ok(scheduled) = schedule_action(row, draws, t.place) else {
             return Short::Elsewhere;
         };
         return Short::Acted(scheduled.value, move_of(entered, t, scheduled.at));
@@ -89,32 +95,41 @@ fn settle_in<D: Draws>(e: &Env<D>, row: &[u64], entered: &MachineRuntime, t: &Ta
 
 // To a state of the machine, whose row is `row`.
 #[tactic(auto, unfolding(crate::specs::Short::settle))]
-fn settle<D: Draws>(e: &Env<D>, row: &[u64], next: u64, r: MachineRuntime, s: &Shared) -> Short
-    ensures { result ≡ Spec.settle row.now (D.source e.now.draws.now).values e.now.context next r s.now }
+fn settle<D: Draws>(
+    row: &[u64],
+    draws: &D,
+    c: &Context,
+    next: u64,
+    r: MachineRuntime,
+    s: &Shared,
+) -> Short
+    ensures { result ≡ Spec.settle row.now (D.source draws.now).values c.now next r s.now }
 {
-    let Ok(entered) = enter(row, e.draws, r, next, s.place) else {
+    let Ok(entered) = enter(row, draws, r, next, s.place) else {
         return Short::Elsewhere;
     };
     let q = entered.value;
-    let Ok(t) = update_counters(row, e.draws, q.counters, s.zeroed, entered.at) else {
+    let Ok(t) = update_counters(row, draws, q.counters, s.zeroed, entered.at) else {
         return Short::Elsewhere;
     };
     if t.reports {
         return Short::Elsewhere;
     }
-    settle_in(e, row, &q, &t)
+    settle_in(row, draws, c, &q, &t)
 }
 
 // The machine's own limit does not fall where its state changes.
 #[tactic(auto, unfolding(crate::specs::Short::short))]
 pub fn short_way<D: Draws>(
-    e: &Env<D>,
+    rows: &[u64],
+    draws: &D,
+    c: &Context,
     falls: bool,
     chosen: Option<u64>,
     r: MachineRuntime,
     s: &Shared,
 ) -> Short
-    ensures { result ≡ Spec.short e.now.rows.now (D.source e.now.draws.now).values e.now.context falls chosen r s.now }
+    ensures { result ≡ Spec.short rows.now (D.source draws.now).values c.now falls chosen r s.now }
 {
     let Some(next) = chosen else {
         return Short::Elsewhere;
@@ -122,5 +137,5 @@ pub fn short_way<D: Draws>(
     if next == STATE_END || next == STATE_SIGNAL || (falls && r.current_state == next) {
         return Short::Elsewhere;
     }
-    settle(e, state_row(e.rows, next), next, r, s)
+    settle(state_row(rows, next), draws, c, next, r, s)
 }

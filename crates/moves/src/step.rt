@@ -10,7 +10,7 @@ use machine::constants::STATE_END;
 use machine::source::{Draw, Draws, Place};
 use refusal::Refusal;
 use samples::action::sample_limit;
-use steps::{Env, MachineRuntime, Step, Tally, Update};
+use steps::{Context, MachineRuntime, Step, Tally, Update};
 
 // ---- answers
 
@@ -89,23 +89,25 @@ fn has_changed(before: u64, u: &Update) -> bool
 // The action is scheduled where a CounterZero left the machine none, and where the limits allow it:
 // they are judged with the machine as it entered the state, before its counters.
 #[tactic(auto, unfolding(steps::specs::Transition::finish))]
-pub fn finish<D: Draws>(
-    e: &Env<D>,
+pub fn finished<D: Draws>(
     row: &[u64],
+    draws: &D,
+    c: &Context,
     entered: &MachineRuntime,
     before: u64,
-    u: Update,
+    updated: Result<Update, Refusal>,
 ) -> Result<Step, Refusal>
-    ensures { result ≡ Spec.finish row.now (D.source e.now.draws.now).values before (below_action_limits e.now.context entered.now row.now) u }
+    ensures { result ≡ Spec.finished row.now (D.source draws.now).values before (below_action_limits c.now entered.now row.now) updated }
 {
+    let u = updated?;
     let mut d = Step {
         runtime: u.runtime,
         shared: u.shared,
         action: u.action,
         changed: has_changed(before, &u),
     };
-    if u.allow_schedule && below_action_limits(&e.context, entered, row) {
-        let scheduled = schedule_action(row, e.draws, d.shared.place)?;
+    if u.allow_schedule && below_action_limits(c, entered, row) {
+        let scheduled = schedule_action(row, draws, d.shared.place)?;
         d.shared.place = scheduled.at;
         d.action = scheduled.value;
     }
@@ -113,14 +115,15 @@ pub fn finish<D: Draws>(
 }
 
 // After a CounterZero the outer action is scheduled only where the machine has none.
-pub fn after_zero(d: Step) -> Update
-    ensures { Ok result ≡ Spec.after_zero (Ok d) }
+pub fn after_zero(stepped: Result<Step, Refusal>) -> Result<Update, Refusal>
+    ensures { result ≡ Spec.after_zero stepped }
 {
-    Update {
+    let d = stepped?;
+    Ok(Update {
         runtime: d.runtime,
         shared: d.shared,
         action: d.action,
         allow_schedule: d.action.kind == 0,
         state_changed: d.changed,
-    }
+    })
 }

@@ -15,7 +15,7 @@ use machine::source::Draws;
 use machine::state::state_row;
 use moves::action::no_action;
 use moves::choice::choose;
-use moves::step::{after_zero, counted, ended, enter, finish, raise};
+use moves::step::{after_zero, counted, ended, enter, finished, raise};
 use refusal::Refusal;
 use samples::action::has_limit;
 use steps::{Env, Step, Update};
@@ -45,7 +45,7 @@ fn update_counter<D: Draws>(e: &Env<D>, row: &[u64], d: Step) -> Result<Update, 
             action: u.action,
             changed: false,
         };
-        return Ok(after_zero(transition(e, COUNTER_ZERO, zero)?));
+        return after_zero(transition(e, COUNTER_ZERO, zero));
     }
     Ok(u)
 }
@@ -73,8 +73,15 @@ pub fn going<D: Draws>(e: &Env<D>, chosen: Option<u64>, d: Step) -> Result<Step,
     let entered = enter(row, e.draws, d.runtime, next, d.shared.place)?;
     t.runtime = entered.value;
     t.shared.place = entered.at;
-    let u = update_counter(e, row, t)?;
-    finish(e, row, &entered.value, d.runtime.current_state, u)
+    let updated = update_counter(e, row, t);
+    finished(
+        row,
+        e.draws,
+        &e.context,
+        &entered.value,
+        d.runtime.current_state,
+        updated,
+    )
 }
 
 #[cycle(going_transition_update_counter)]
@@ -113,9 +120,14 @@ fn decrement_limit<D: Draws>(e: &Env<D>, d: Step) -> Result<Step, Refusal>
 
 // After a transition: where the event is one at which the state limit falls, it falls unless the
 // machine changed state or ended.
-pub fn after_transition<D: Draws>(e: &Env<D>, falls: bool, d: Step) -> Result<Step, Refusal>
-    ensures { result ≡ Events.after_transition (lent_env D.source e.now) falls (Ok d) }
+pub fn after_transition<D: Draws>(
+    e: &Env<D>,
+    falls: bool,
+    stepped: Result<Step, Refusal>,
+) -> Result<Step, Refusal>
+    ensures { result ≡ Events.after_transition (lent_env D.source e.now) falls stepped }
 {
+    let d = stepped?;
     if falls && !d.changed && d.runtime.current_state != STATE_END {
         return decrement_limit(e, d);
     }

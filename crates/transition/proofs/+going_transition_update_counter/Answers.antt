@@ -33,16 +33,6 @@ update_counter-transition-requires g t c =
     let few = fewer _ _ d.runtime d.shared c.in_ok-t.t told c.if-t.true in
     rw c.counted-u.ensures (λ κs out. (omega (arith, c.decreases, few), search rules))
 
-pub update_counter-returns-in_err-transition : goal.update_counter-returns-in_err-transition
-update_counter-returns-in_err-transition g t c =
-    let a = c.args in
-    let d = a.d in
-    let told : update_counters a.row.now (g.D.Draws.source a.e.now.draws.now).values d.runtime.counters d.shared.zeroed d.shared.place ≡ Ok c.in_ok-t.t = search rules in
-    λ n h.
-    let l = on_report (lent_env g.D.Draws.source a.e.now) a.row.now d.runtime d.shared c.in_ok-t.t told c.if-t.true n h d.action in
-    let m = rw c.counted-u.ensures at c.transition.ensures (n - 1) (one_less _ _ d.runtime d.shared c.in_ok-t.t told c.if-t.true n h) in
-    search rules
-
 pub update_counter-returns-then-t : goal.update_counter-returns-then-t
 update_counter-returns-then-t g t c =
     let a = c.args in
