@@ -1,6 +1,7 @@
 // framework.rs: the counters of update_counter.
 #![tactic(auto)]
 
+ghost use Rattle.refusal.specs.Refusal.{told};
 ghost use Rattle.std.specs.Prelude.{◌≡◌, ◌&&◌, get_or, eqb, ◌+◌, ◌≤◌};
 ghost use Rattle.machine.specs.Constants.{counter_a, counter_b, state_words};
 ghost use Rattle.steps.specs.Transition as Spec;
@@ -41,7 +42,7 @@ fn change_of<D: Draws>(
     other: u64,
 ) -> Result<Draw<u64>, Refusal>
     requires { k + 2 ≤ state_words }
-    ensures { result ≡ Spec.change_of row.now k (D.source draws.now).values at other }
+    ensures { told result ≡ Spec.change_of row.now k (D.source draws.now).values at other }
 {
     if word(row, k + 1) == 1 {
         return Ok(Draw { value: other, at });
@@ -61,7 +62,7 @@ fn update_one<D: Draws>(
     zeroed: bool,
 ) -> Result<Counter, Refusal>
     requires { k + 2 ≤ state_words }
-    ensures { result ≡ Spec.update_one row.now k (D.source draws.now).values at old other zeroed }
+    ensures { told result ≡ Spec.update_one row.now k (D.source draws.now).values at old other zeroed }
 {
     let operation = word(row, k);
     if operation == 0 {
@@ -101,7 +102,7 @@ pub fn update_counters<D: Draws>(
     zeroed: Zeroed,
     at: Place,
 ) -> Result<Tally, Refusal>
-    ensures { result ≡ Spec.update_counters row.now (D.source draws.now).values old zeroed at }
+    ensures { told result ≡ Spec.update_counters row.now (D.source draws.now).values old zeroed at }
 {
     if no_counters(row) {
         return Ok(Tally {

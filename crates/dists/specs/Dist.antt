@@ -3,7 +3,6 @@ use Rattle.std.specs.Prelude.{ℕ, ◌+◌, List, Bool, true, cond, not, ◌&&�
 use Rattle.std.specs.Float.{binary64}
 use Rattle.std.specs.Float.Ieee.{of_bits, add, sub, lt, eq}
 use Rattle.numbers.specs.Finite.{is_finite, zero_f}
-use Rattle.refusal.specs.declared.Refusal.{Refusal}
 use Rattle.machine.specs.Source.{Values, draw, draw_of}
 use Rattle.machine.specs.declared.source.Place.{Place}
 use Rattle.machine.specs.declared.source.Draw.{Draw}
@@ -39,24 +38,24 @@ unfoldable pub validate : Dist → Bool
 validate d = valid_type d.dist
 
 -- ---- a value draw
-abbrev pub got_value : Float → Place → Result (Draw Float) Refusal
+abbrev pub got_value : Float → Place → Result (Draw Float) ℕ
 got_value value at = Ok (draw value at)
 
 -- A Uniform value; with low = high it takes no draw.
-unfoldable pub uniform_draw : Float → Float → Values Place → Place → Result (Draw Float) Refusal
+unfoldable pub uniform_draw : Float → Float → Values Place → Place → Result (Draw Float) ℕ
 uniform_draw low high values at = cond (eq low high) (got_value low at) (draw_of (values.uniform low high at))
 
 -- A value drawn outside.
-unfoldable pub outside_draw : Values Place → Place → Result (Draw Float) Refusal
+unfoldable pub outside_draw : Values Place → Place → Result (Draw Float) ℕ
 outside_draw values at = draw_of (values.outside at)
 
 -- ---- Dist::dist_sample; an absent distribution is never sampled
-abbrev pub sample_of_type : DistType → Values Place → Place → Result (Draw Float) Refusal
+abbrev pub sample_of_type : DistType → Values Place → Place → Result (Draw Float) ℕ
 sample_of_type Absent values at = got_value zero_f at
 sample_of_type (Uniform low high) values at = uniform_draw low high values at
 sample_of_type Outside values at = outside_draw values at
 
-unfoldable pub dist_sample : Dist → Values Place → Place → Result (Draw Float) Refusal
+unfoldable pub dist_sample : Dist → Values Place → Place → Result (Draw Float) ℕ
 dist_sample d values at = sample_of_type d.dist values at
 
 -- ---- Dist::sample
@@ -71,17 +70,17 @@ capped max x = cond (lt zero_f max && lt max x) max x
 unfoldable pub adjusted : Dist → Float → Float
 adjusted d sampled = capped d.max (or_zero (add binary64 sampled d.start))
 
-abbrev pub adjusted_draw : Dist → Result (Draw Float) Refusal → Result (Draw Float) Refusal
+abbrev pub adjusted_draw : Dist → Result (Draw Float) ℕ → Result (Draw Float) ℕ
 adjusted_draw d (Err r) = Err r
 adjusted_draw d (Ok v) = got_value (adjusted d v.value) v.at
 
-unfoldable pub sample : Dist → Values Place → Place → Result (Draw Float) Refusal
+unfoldable pub sample : Dist → Values Place → Place → Result (Draw Float) ℕ
 sample d values at = adjusted_draw d (dist_sample d values at)
 
 -- ---- a sample as a whole number
-abbrev pub got_whole : ℕ → Place → Result (Draw ℕ) Refusal
+abbrev pub got_whole : ℕ → Place → Result (Draw ℕ) ℕ
 got_whole value at = Ok (draw value at)
 
-abbrev pub whole_of : (Float → ℕ) → Result (Draw Float) Refusal → Result (Draw ℕ) Refusal
+abbrev pub whole_of : (Float → ℕ) → Result (Draw Float) ℕ → Result (Draw ℕ) ℕ
 whole_of f (Err r) = Err r
 whole_of f (Ok v) = got_whole (f v.value) v.at

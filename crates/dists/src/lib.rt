@@ -1,6 +1,7 @@
 // dist.rs: a distribution, and what is drawn from it.
 #![tactic(auto)]
 
+ghost use Rattle.refusal.specs.Refusal.{told};
 ghost use Rattle.std.specs.Prelude.{◌≡◌, ◌≤◌};
 ghost use Rattle.machine.specs.Constants.{state_words};
 ghost use Rattle.dists.specs.Dist as Spec;
@@ -74,7 +75,7 @@ pub fn valid_uniform(low: f64, high: f64) -> bool
 // With low = high a Uniform value takes no draw. Callers do not sample an absent distribution.
 #[tactic(auto, unfolding(crate::specs::Dist::dist_sample, crate::specs::Dist::uniform_draw, crate::specs::Dist::outside_draw))]
 fn dist_sample<D: Draws>(d: Dist, draws: &D, at: Place) -> Result<Draw<f64>, Refusal>
-    ensures { result ≡ Spec.dist_sample d (D.source draws.now).values at }
+    ensures { told result ≡ Spec.dist_sample d (D.source draws.now).values at }
 {
     match d.dist {
         DistType::Absent => Ok(Draw { value: 0.0, at }),
@@ -115,7 +116,7 @@ fn adjusted(d: Dist, sampled: f64) -> f64
 #[tactic(auto, unfolding(crate::specs::Dist::sample))]
 pub fn sample<D: Draws>(row: &[u64], k: usize, draws: &D, at: Place) -> Result<Draw<f64>, Refusal>
     requires { k ≤ state_words }
-    ensures { result ≡ Spec.sample (Spec.dist_at row.now k) (D.source draws.now).values at }
+    ensures { told result ≡ Spec.sample (Spec.dist_at row.now k) (D.source draws.now).values at }
 {
     let d = dist_at(row, k);
     let drawn = dist_sample(d, draws, at)?;

@@ -3,8 +3,6 @@ use Rattle.std.specs.Prelude.{ℕ, zero, suc, ◌+◌, ◌-◌, ◌≤◌, ◌<�
 use Rattle.std.proofs.Common.{arith, ◌∙◌}
 use Rattle.std.proofs.lemmas.Bool.{false≢true}
 use lib.Seq.{set-get_or}
-use Rattle.refusal.specs.Refusal.{number}
-use Rattle.refusal.specs.declared.Refusal.{Refusal}
 use Rattle.machine.specs.Constants.{counter_num}
 use Rattle.machine.specs.Event.{event_of}
 use Rattle.machine.specs.Source.{Source, draw}
@@ -43,7 +41,7 @@ only E false (Some next) r s p e = absurd (false≢true e)
 only E false None r s p e = refl
 
 -- ---- a machine's turn, by its choice
-abbrev pub choice_at : Tables → Source Place → ℕ → ℕ → Run → Result (Draw (Option ℕ)) Refusal
+abbrev pub choice_at : Tables → Source Place → ℕ → ℕ → Run → Result (Draw (Option ℕ)) ℕ
 choice_at T D kind m x =
     choose (states_of T m) T.transitions D.chance (runtime_at x.framework m).current_state (event_of kind) x.shared.place
 
@@ -65,7 +63,7 @@ module _ (T : Tables) (D : Source Place) (quiet : (event machine : ℕ) (at : Pl
   abbrev pub left_with : MachineRuntime → List TriggerAction → Shared → Run
   left_with r actions s = record { framework = with_runtime x.framework (set x.framework.runtime m r); actions = actions; shared = s }
 
-  pub turn_stops : {why : Refusal} → choice_at T D kind m x ≡ Err why → machine_turn T D kind machine blocked m x ≡ stop (number why)
+  pub turn_stops : {why : ℕ} → choice_at T D kind m x ≡ Err why → machine_turn T D kind machine blocked m x ≡ stop why
   unfolding machine_turn
   turn_stops e = rw (turn_missing E quiet kind blocked falls (runtime_at x.framework m) x.shared pending e)
 

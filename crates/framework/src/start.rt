@@ -1,4 +1,5 @@
 // The machines of an opening: each begins in state 0, with the limit that its start state draws.
+ghost use Rattle.refusal.specs.Refusal.{told};
 ghost use Rattle.std.specs.Prelude.{◌≡◌, [], ◌≤◌, ◌<◌};
 ghost use Rattle.refusal.specs.Refusal.{refusal_of};
 ghost use Rattle.machine.specs.Constants.{machine_max};
@@ -91,7 +92,7 @@ pub fn opened(answer: Result<Draw<Framework>, Refusal>) -> Opened
 // The start state's limit; without an action it stays 0.
 #[tactic(auto, unfolding(steps::specs::Framework::start_limit))]
 fn start_limit<D: Draws>(row: &[u64], draws: &D, at: Place) -> Result<Draw<u64>, Refusal>
-    ensures { result ≡ start_limit row.now (D.source draws.now).values at }
+    ensures { told result ≡ start_limit row.now (D.source draws.now).values at }
 {
     if word(row, ACTION) == NO_ACTION {
         return Ok(Draw { value: 0, at });
@@ -109,7 +110,7 @@ fn open_machine<D: Draws>(
     at: Place,
 ) -> Result<Draw<MachineRuntime>, Refusal>
     requires { m < machine_max }
-    ensures { result ≡ open_machine (lent_tables t.now) (D.source draws.now).values m time at }
+    ensures { told result ≡ open_machine (lent_tables t.now) (D.source draws.now).values m time at }
 {
     let row = state_row(states_of(t, m), 0);
     let limit = start_limit(row, draws, at)?;

@@ -6,13 +6,11 @@ use Rattle.std.proofs.Common.{lit<}
 use Rattle.std.specs.Float.{nan, binary32}
 use Rattle.std.specs.Float.Ieee.{of_bits, lt, le}
 use Rattle.refusal.specs.Refusal.{number}
-use Rattle.refusal.specs.declared.Refusal.{Refusal}
-use Rattle.refusal.specs.declared.Refusal.TheVariants.{NoDraw, UnfitDraw}
 use Rattle.machine.specs.declared.source.Place.{Place}
 use Rattle.machine.specs.declared.source.Draw.{Draw}
 
 pub data Drawn (S A : Type 0) : Type 0 where
-  no : Refusal → S → Drawn S A
+  no : ℕ → S → Drawn S A
   got : A → S → Drawn S A
 
 pub record Values (S : Type 0) : Type 0 where
@@ -29,16 +27,16 @@ pub record Source (S : Type 0) : Type 0 where
 abbrev pub draw : {A : Type 0} → A → Place → Draw A
 draw value at = record { value = value; at = at }
 
-abbrev pub draw_of : {A : Type 0} → Drawn Place A → Result (Draw A) Refusal
+abbrev pub draw_of : {A : Type 0} → Drawn Place A → Result (Draw A) ℕ
 draw_of (no r at) = Err r
 draw_of (got v at) = Ok (draw v at)
 
-unfoldable pub chance_draw : (Place → Drawn Place Float) → Place → Result (Draw Float) Refusal
+unfoldable pub chance_draw : (Place → Drawn Place Float) → Place → Result (Draw Float) ℕ
 chance_draw chance at = draw_of (chance at)
 
 -- A source tells why it refuses: by a number that is not 0, which means accepted.
 abbrev pub Tells : {S A : Type 0} → Drawn S A → Type 0
-Tells (no r s) = 0 < number r
+Tells (no r s) = 0 < r
 Tells (got a s) = Unit
 
 pub record Telling {S : Type 0} (D : Source S) : Type 0 where
@@ -63,8 +61,8 @@ place c v = record { chance_at = c; value_at = v }
 abbrev pub on_tape : (Float → Bool) → List Float → ℕ → Place → Place → Drawn Place Float
 on_tape fit tape at after here =
     cond (ltb at (length tape))
-    (cond (fit (get_or tape at nan)) (got (get_or tape at nan) after) (no UnfitDraw here))
-    (no NoDraw here)
+    (cond (fit (get_or tape at nan)) (got (get_or tape at nan) after) (no 17 here))
+    (no 16 here)
 
 abbrev pub next_chance : List Float → Place → Drawn Place Float
 next_chance chances at =
@@ -89,7 +87,7 @@ tapes chances values = record {
 on_tape_tells : (fit : Float → Bool) (tape : List Float) (at : ℕ) (after here : Place) → Tells (on_tape fit tape at after here)
 on_tape_tells fit tape at after here = go (ltb at (length tape)) (fit (get_or tape at nan))
   where
-    go : (a b : Bool) → Tells (cond a (cond b (got (get_or tape at nan) after) (no UnfitDraw here)) (no NoDraw here))
+    go : (a b : Bool) → Tells (cond a (cond b (got (get_or tape at nan) after) (no 17 here)) (no 16 here))
     go true true = tt
     go true false = lit< tt
     go false b = lit< tt

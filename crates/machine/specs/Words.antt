@@ -3,7 +3,6 @@ pub mod Laws
 use Rattle.std.specs.Prelude.{ℕ, ◌+◌, ◌/◌, ◌%◌, ◌^◌, List, [], ◌∷◌, false, cond, length, get_or, drop, ltb, eqb, Float}
 use Rattle.std.specs.Float.{binary32, binary64}
 use Rattle.std.specs.Float.Ieee.{round, add, sub, mul, le}
-use Rattle.refusal.specs.declared.Refusal.TheVariants.{NoDraw}
 use Rattle.machine.specs.Source.{Drawn, no, got, Values, Source, place, next_chance, tape_values}
 use Rattle.machine.specs.declared.source.Place.{Place}
 
@@ -24,11 +23,11 @@ abbrev pub word_chance : List ℕ → Place → Drawn Place Float
 word_chance ws at =
     cond (ltb at.value_at (length ws))
     (got (chance_of (get_or ws at.value_at 0)) (place at.chance_at (at.value_at + 1)))
-    (no NoDraw at)
+    (no 16 at)
 
 -- where a value is high or more the next word is tried
 abbrev pub word_value : Float → Float → List ℕ → ℕ → ℕ → Drawn Place Float
-word_value low high [] c at = no NoDraw (place c at)
+word_value low high [] c at = no 16 (place c at)
 word_value low high (w ∷ ws) c at =
     cond (le high (value_of low high w)) (word_value low high ws c (at + 1)) (got (value_of low high w) (place c (at + 1)))
 
@@ -36,7 +35,7 @@ word_value low high (w ∷ ws) c at =
 abbrev pub word_values : List ℕ → Values Place
 word_values ws = record {
   uniform = λ low high at. word_value low high (drop at.value_at ws) at.chance_at at.value_at;
-  outside = no NoDraw;
+  outside = no 16;
 }
 
 abbrev pub words : List ℕ → Source Place

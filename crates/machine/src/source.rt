@@ -1,4 +1,5 @@
 // What a call draws: chances and values, from two lent tapes or from one of raw words.
+ghost use Rattle.refusal.specs.Refusal.{told};
 ghost use Rattle.std.specs.Prelude.{◌≡◌, refl, ℕ};
 ghost use Rattle.machine.specs.Source.{Source, draw_of, tapes};
 ghost use Rattle.machine.specs.declared.source.Place.{Place};
@@ -25,15 +26,15 @@ pub trait Draws {
     ghost source: { Self → Source Place };
 
     fn chance(&self, at: Place) -> Result<Draw<f32>, Refusal>
-        ensures { result ≡ draw_of ((source self.now).chance at) };
+        ensures { told result ≡ draw_of ((source self.now).chance at) };
 
     // A Uniform value, of bounds that differ.
     fn uniform(&self, low: f64, high: f64, at: Place) -> Result<Draw<f64>, Refusal>
-        ensures { result ≡ draw_of ((source self.now).values.uniform low high at) };
+        ensures { told result ≡ draw_of ((source self.now).values.uniform low high at) };
 
     // A value of a distribution that is drawn outside.
     fn outside(&self, at: Place) -> Result<Draw<f64>, Refusal>
-        ensures { result ≡ draw_of ((source self.now).values.outside at) };
+        ensures { told result ≡ draw_of ((source self.now).values.outside at) };
 
     // No source moves on at an attempt at a transition.
     ghost untold: { (x : Self) (event machine : ℕ) (at : Place) → (source x).attempt event machine at ≡ at };

@@ -1,7 +1,6 @@
 -- A machine's turn after its choice, on the short way: to a state of the machine, where no counter reports zero, no draw is refused
 -- and no limit falls.
 use Rattle.std.specs.Prelude.{Result, Ok, Err, Option, Some, None}
-use Rattle.refusal.specs.declared.Refusal.{Refusal}
 use Rattle.machine.specs.declared.source.Draw.{Draw}
 use Rattle.steps.specs.declared.TriggerAction.{TriggerAction}
 use Rattle.std.specs.Prelude.{ℕ, List, Bool, cond, ◌&&◌, ◌||◌, eqb}
@@ -45,7 +44,7 @@ move_of q t at = record {
 }
 
 -- ---- the way: a refused draw and a report are left to the long one
-abbrev pub scheduled_in : MachineRuntime → Tally → Result (Draw TriggerAction) Refusal → Short
+abbrev pub scheduled_in : MachineRuntime → Tally → Result (Draw TriggerAction) ℕ → Short
 scheduled_in q t (Err n) = Elsewhere
 scheduled_in q t (Ok d) = Acted d.value (move_of q t d.at)
 
@@ -53,11 +52,11 @@ unfoldable pub settle_in : List ℕ → Values Place → Context → MachineRunt
 settle_in row values c q t =
     cond (below_action_limits c q row) (scheduled_in q t (schedule_action row values t.place)) (Kept (move_of q t t.place))
 
-abbrev pub settle_with : List ℕ → Values Place → Context → MachineRuntime → Result Tally Refusal → Short
+abbrev pub settle_with : List ℕ → Values Place → Context → MachineRuntime → Result Tally ℕ → Short
 settle_with row values c q (Err n) = Elsewhere
 settle_with row values c q (Ok t) = cond t.reports Elsewhere (settle_in row values c q t)
 
-abbrev pub settle_from : List ℕ → Values Place → Context → Zeroed → Result (Draw MachineRuntime) Refusal → Short
+abbrev pub settle_from : List ℕ → Values Place → Context → Zeroed → Result (Draw MachineRuntime) ℕ → Short
 settle_from row values c zeroed (Err n) = Elsewhere
 settle_from row values c zeroed (Ok d) =
     settle_with row values c d.value (update_counters row values d.value.counters zeroed d.at)

@@ -1,4 +1,5 @@
 // framework.rs: the action that a state's row schedules (schedule_action).
+ghost use Rattle.refusal.specs.Refusal.{told};
 ghost use Rattle.std.specs.Prelude.{◌≡◌};
 ghost use Rattle.steps.specs.Transition.{no_action, returned_flags, returned_timer, schedule_action};
 
@@ -49,7 +50,7 @@ pub fn schedule_action<D: Draws>(
     draws: &D,
     at: Place,
 ) -> Result<Draw<TriggerAction>, Refusal>
-    ensures { result ≡ schedule_action row.now (D.source draws.now).values at }
+    ensures { told result ≡ schedule_action row.now (D.source draws.now).values at }
 {
     let timeout = sample_timeout(row, draws, at)?;
     let duration = sample_duration(row, draws, timeout.at)?;

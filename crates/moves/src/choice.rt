@@ -1,4 +1,5 @@
 // The choice of a next state, with the chance that it draws.
+ghost use Rattle.refusal.specs.Refusal.{told};
 ghost use Rattle.std.specs.Prelude.{◌≡◌, ◌<◌};
 ghost use Rattle.moves.specs.Choice as Spec;
 
@@ -18,7 +19,7 @@ pub fn choose<D: Draws>(
     at: Place,
 ) -> Result<Draw<Option<u64>>, Refusal>
     requires { event < 13 }
-    ensures { result ≡ Spec.choose rows.now transitions.now (D.source draws.now).chance state event at }
+    ensures { told result ≡ Spec.choose rows.now transitions.now (D.source draws.now).chance state event at }
 {
     let row = state_row(rows, state);
     let count = count_of(row, event);

@@ -1,4 +1,5 @@
 // The parts of a step: what a transition makes of its machine before and after its counter update.
+ghost use Rattle.refusal.specs.Refusal.{told};
 ghost use Rattle.std.specs.Prelude.{◌≡◌, Ok, true, ◌<◌};
 ghost use Rattle.machine.specs.Constants.{state_end};
 ghost use Rattle.steps.specs.Limits.{below_action_limits};
@@ -44,7 +45,7 @@ pub fn enter<D: Draws>(
     state: u64,
     at: Place,
 ) -> Result<Draw<MachineRuntime>, Refusal>
-    ensures { result ≡ Spec.enter row.now (D.source draws.now).values r state at }
+    ensures { told result ≡ Spec.enter row.now (D.source draws.now).values r state at }
 {
     if r.current_state == state {
         return Ok(Draw { value: r, at });
@@ -97,7 +98,7 @@ pub fn finished<D: Draws>(
     before: u64,
     updated: Result<Update, Refusal>,
 ) -> Result<Step, Refusal>
-    ensures { result ≡ Spec.finished row.now (D.source draws.now).values before (below_action_limits c.now entered.now row.now) updated }
+    ensures { told result ≡ Spec.finished row.now (D.source draws.now).values before (below_action_limits c.now entered.now row.now) (told updated) }
 {
     let u = updated?;
     let mut d = Step {
@@ -116,7 +117,7 @@ pub fn finished<D: Draws>(
 
 // After a CounterZero the outer action is scheduled only where the machine has none.
 pub fn after_zero(stepped: Result<Step, Refusal>) -> Result<Update, Refusal>
-    ensures { result ≡ Spec.after_zero stepped }
+    ensures { told result ≡ Spec.after_zero (told stepped) }
 {
     let d = stepped?;
     Ok(Update {

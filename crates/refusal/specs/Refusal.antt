@@ -34,6 +34,11 @@ abbrev pub refusal_of : {A : Type 0} → Result A Refusal → ℕ
 refusal_of (Ok a) = 0
 refusal_of (Err r) = number r
 
+-- an answer as the definitions have it: with its refusal's number
+abbrev pub told : {A : Type 0} → Result A Refusal → Result A ℕ
+told (Ok a) = Ok a
+told (Err r) = Err (number r)
+
 -- no refusal has the number of an accepted call
 pub number_positive : (r : Refusal) → 0 < number r
 number_positive R.PaddingFraction = lit< tt

@@ -9,7 +9,6 @@ use Rattle.numbers.specs.Round.{round_away}
 use Rattle.machine.specs.Constants.{state_limit_max}
 use Rattle.dists.specs.Dist.{got_whole, whole_of}
 use Rattle.std.specs.Prelude.{Result, Ok, Err}
-use Rattle.refusal.specs.declared.Refusal.{Refusal}
 use Rattle.machine.specs.declared.source.Draw.{Draw}
 
 at_most : (x : Float) → round_away x ≤ state_limit_max
@@ -24,7 +23,7 @@ uncapped : (x : Float) → min (round_away x) state_limit_max ≡ round_away x
 uncapped x = omega (arith, at_most x)
 
 -- with that cap the rounded number is the number
-pub rounded_fits : (d : Result (Draw Float) Refusal) →
+pub rounded_fits : (d : Result (Draw Float) ℕ) →
     whole_of (λ (x : Float). min (round_away x) state_limit_max) d ≡ whole_of round_away d
 rounded_fits (Err r) = refl
 rounded_fits (Ok v) = ap (λ (w : ℕ). got_whole w v.at) (uncapped v.value)

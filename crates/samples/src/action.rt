@@ -1,4 +1,5 @@
 // action.rs: what an action draws.
+ghost use Rattle.refusal.specs.Refusal.{told};
 ghost use Rattle.std.specs.Prelude.{◌≡◌, min, ◌≤◌};
 ghost use Rattle.numbers.specs.Round.{round_away};
 ghost use Rattle.machine.specs.Constants.{state_words};
@@ -23,7 +24,7 @@ fn sample_rounded<D: Draws>(
     at: Place,
 ) -> Result<Draw<u64>, Refusal>
     requires { k ≤ state_words }
-    ensures { result ≡ whole_of (λ x. min (round_away x) most) (sample (dist_at row.now k) (D.source draws.now).values at) }
+    ensures { told result ≡ whole_of (λ x. min (round_away x) most) (sample (dist_at row.now k) (D.source draws.now).values at) }
 {
     let drawn = sample(row, k, draws, at)?;
     Ok(Draw {
@@ -35,7 +36,7 @@ fn sample_rounded<D: Draws>(
 // Action::sample_timeout: of SendPadding and BlockOutgoing; 0, with no draw, for any other action.
 #[tactic(auto, unfolding(crate::specs::Action::sample_timeout))]
 pub fn sample_timeout<D: Draws>(row: &[u64], draws: &D, at: Place) -> Result<Draw<u64>, Refusal>
-    ensures { result ≡ sample_timeout row.now (D.source draws.now).values at }
+    ensures { told result ≡ sample_timeout row.now (D.source draws.now).values at }
 {
     let action = word(row, ACTION);
     if (action == SEND_PADDING) | (action == BLOCK_OUTGOING) {
@@ -47,7 +48,7 @@ pub fn sample_timeout<D: Draws>(row: &[u64], draws: &D, at: Place) -> Result<Dra
 // Action::sample_duration: of BlockOutgoing and UpdateTimer; 0, with no draw, for any other action.
 #[tactic(auto, unfolding(crate::specs::Action::sample_duration))]
 pub fn sample_duration<D: Draws>(row: &[u64], draws: &D, at: Place) -> Result<Draw<u64>, Refusal>
-    ensures { result ≡ sample_duration row.now (D.source draws.now).values at }
+    ensures { told result ≡ sample_duration row.now (D.source draws.now).values at }
 {
     let action = word(row, ACTION);
     if (action == BLOCK_OUTGOING) | (action == UPDATE_TIMER) {
@@ -69,7 +70,7 @@ pub fn has_limit(row: &[u64]) -> bool
 // Action::sample_limit; the largest u64, with no draw, where there is no limit.
 #[tactic(auto, unfolding(crate::specs::Action::sample_limit))]
 pub fn sample_limit<D: Draws>(row: &[u64], draws: &D, at: Place) -> Result<Draw<u64>, Refusal>
-    ensures { result ≡ sample_limit row.now (D.source draws.now).values at }
+    ensures { told result ≡ sample_limit row.now (D.source draws.now).values at }
 {
     if has_limit(row) {
         return sample_rounded(row, LIMIT, STATE_LIMIT_MAX, draws, at);

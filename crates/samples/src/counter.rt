@@ -1,4 +1,5 @@
 // counter.rs: what a counter changes by.
+ghost use Rattle.refusal.specs.Refusal.{told};
 ghost use Rattle.std.specs.Prelude.{◌≡◌, ◌+◌, ◌≤◌};
 ghost use Rattle.machine.specs.Constants.{state_words};
 ghost use Rattle.samples.specs.Counter.{sample_value};
@@ -18,7 +19,7 @@ pub fn sample_value<D: Draws>(
     at: Place,
 ) -> Result<Draw<u64>, Refusal>
     requires { k + 2 ≤ state_words }
-    ensures { result ≡ sample_value row.now k (D.source draws.now).values at }
+    ensures { told result ≡ sample_value row.now k (D.source draws.now).values at }
 {
     let dist = k + COUNTER_DIST;
     if word(row, dist) == ABSENT {

@@ -2,7 +2,6 @@
 -- does, so that a batch which goes on with it is never refused as 18. Assumes nothing.
 use Rattle.std.specs.Prelude.{Ok}
 use Rattle.std.specs.Prelude.{Result, Err}
-use Rattle.refusal.specs.declared.Refusal.{Refusal}
 use Rattle.steps.specs.declared.Step.{Step}
 use Rattle.std.specs.Prelude.{ℕ, zero, suc, ◌+◌, ◌*◌, ◌≤◌, ◌<◌, min, Bool, true, false, cond, ◌&&◌, ◌||◌, List, ◌⊎◌, ◌≡◌, refl, T, Float, length, get_or, replicate}
 use Rattle.std.proofs.Common.{lt_irrefl, arith, inl, inr, sym, ap, ◌∙◌, subst, lt→ltb, eq-eqb}
@@ -126,7 +125,7 @@ module _ (A : TriggerAction → Type 0) (tables : Tables) (D : Source Place) (va
       num m n e l = omega arith
 
 -- ---- the machine count stays
-stored_machines : (m : ℕ) (x : Run) (i : ℕ) (s : Result Step Refusal) → x.framework.machines ≡ m
+stored_machines : (m : ℕ) (x : Run) (i : ℕ) (s : Result Step ℕ) → x.framework.machines ≡ m
     → OutcomeOk (λ n. Unit) (λ y. y.framework.machines ≡ m) (stored x i s)
 stored_machines m x i (Err n) e = tt
 stored_machines m x i (Ok d) e = e

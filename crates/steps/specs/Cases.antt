@@ -1,7 +1,6 @@
 -- Document 01's marked cases: a table of what the definitions answer beside what document 01 says,
 -- under one statement.
 use Rattle.std.specs.Prelude.{Result, Ok, Err, Option, Some}
-use Rattle.refusal.specs.declared.Refusal.{Refusal}
 use Rattle.machine.specs.declared.source.Draw.{Draw}
 use Rattle.steps.specs.declared.Step.{Step}
 use Rattle.std.specs.Prelude.{ℕ, ◌+◌, ◌^◌, Bool, true, false, List, [], ◌∷◌, ◌++◌, ◌≡◌, refl, pos, Float}
@@ -28,14 +27,14 @@ use Rattle.steps.specs.declared.Context.{Context}
 
 -- an answer of one of the definitions; of a step, the machine's state and its two counters
 pub data Answer : Type 0 where
-  drawn : Result (Draw ℕ) Refusal → Answer
+  drawn : Result (Draw ℕ) ℕ → Answer
   float : Float → Answer
   test : Bool → Answer
   next : Option ℕ → Answer
   machine : ℕ → ℕ → ℕ → Answer
   none : Answer
 
-abbrev machine_of : Result Step Refusal → Answer
+abbrev machine_of : Result Step ℕ → Answer
 machine_of (Err n) = none
 machine_of (Ok d) = machine d.runtime.current_state d.runtime.counters.counter_a d.runtime.counters.counter_b
 

@@ -3,7 +3,6 @@
 use Rattle.refusal.specs.Refusal.{number}
 use Rattle.machine.specs.Source.{draw_of}
 use Rattle.std.specs.Prelude.{Result, Ok, Err}
-use Rattle.refusal.specs.declared.Refusal.{Refusal}
 use Rattle.machine.specs.declared.source.Draw.{Draw}
 use Prim.Native.Nat.{ℕ, ◌+◌, ◌≤◌, ◌<◌, min}
 use Rattle.std.proofs.Common.{arith}
@@ -31,7 +30,7 @@ use Rattle.steps.specs.declared.Counter.{Counter}
 
 -- ---- a source that refuses by such numbers alone
 abbrev pub DrawOk : (ℕ → Type 0) → Drawn Place Float → Type 0
-DrawOk R (no r at) = R (number r)
+DrawOk R (no r at) = R r
 DrawOk R (got v at) = Unit
 
 pub record Refuses (R : ℕ → Type 0) (D : Source Place) : Type 0 where
@@ -90,16 +89,16 @@ module _ (R : ℕ → Type 0) where
       tried low high (v ∷ vs) c at = either (DrawOk R) (le high (value_of low high v)) _ _ (tried low high vs c (at + 1)) tt
 
   -- ---- answers of draws: a refusal, or a value of which P holds
-  abbrev ValueOk : Result (Draw Float) Refusal → Type 0
-  ValueOk (Err r) = R (number r)
+  abbrev ValueOk : Result (Draw Float) ℕ → Type 0
+  ValueOk (Err r) = R r
   ValueOk (Ok v) = Unit
 
-  abbrev pub WholeOk : (ℕ → Type 0) → Result (Draw ℕ) Refusal → Type 0
-  WholeOk P (Err r) = R (number r)
+  abbrev pub WholeOk : (ℕ → Type 0) → Result (Draw ℕ) ℕ → Type 0
+  WholeOk P (Err r) = R r
   WholeOk P (Ok w) = P w.value
 
-  abbrev pub ChanceOk : Result (Draw Float) Refusal → Type 0
-  ChanceOk (Err r) = R (number r)
+  abbrev pub ChanceOk : Result (Draw Float) ℕ → Type 0
+  ChanceOk (Err r) = R r
   ChanceOk (Ok d) = Unit
 
 -- what a scheduled action has of its row
@@ -111,16 +110,16 @@ pub record Gives (row : List ℕ) (a : TriggerAction) : Type 0 where
   pub duration : a.duration ≤ max_sampled_duration
 
 module _ (R : ℕ → Type 0) where
-  abbrev pub ScheduledOk : List ℕ → Result (Draw TriggerAction) Refusal → Type 0
-  ScheduledOk row (Err r) = R (number r)
+  abbrev pub ScheduledOk : List ℕ → Result (Draw TriggerAction) ℕ → Type 0
+  ScheduledOk row (Err r) = R r
   ScheduledOk row (Ok d) = Gives row d.value
 
-  abbrev CountedOk : Result Counter Refusal → Type 0
-  CountedOk (Err r) = R (number r)
+  abbrev CountedOk : Result Counter ℕ → Type 0
+  CountedOk (Err r) = R r
   CountedOk (Ok c) = Unit
 
-  abbrev pub TalliedOk : Result Tally Refusal → Type 0
-  TalliedOk (Err r) = R (number r)
+  abbrev pub TalliedOk : Result Tally ℕ → Type 0
+  TalliedOk (Err r) = R r
   TalliedOk (Ok t) = Unit
 
 module _ (R : ℕ → Type 0) (D : Source Place) (refuses : Refuses R D) where
@@ -139,7 +138,7 @@ module _ (R : ℕ → Type 0) (D : Source Place) (refuses : Refuses R D) where
   unfolding sample dist_sample
   sample-ok d at = go (sample_of_type d.dist D.values at) (type-ok d.dist at)
     where
-      go : (v : Result (Draw Float) Refusal) → ValueOk R v → ValueOk R (adjusted_draw d v)
+      go : (v : Result (Draw Float) ℕ) → ValueOk R v → ValueOk R (adjusted_draw d v)
       go (Err n) h = h
       go (Ok v) h = tt
 
@@ -147,7 +146,7 @@ module _ (R : ℕ → Type 0) (D : Source Place) (refuses : Refuses R D) where
       → WholeOk R P (whole_of f (sample d D.values at))
   whole-ok P f p d at = go (sample d D.values at) (sample-ok d at)
     where
-      go : (v : Result (Draw Float) Refusal) → ValueOk R v → WholeOk R P (whole_of f v)
+      go : (v : Result (Draw Float) ℕ) → ValueOk R v → WholeOk R P (whole_of f v)
       go (Err n) h = h
       go (Ok v) h = p v.value
 
@@ -195,12 +194,12 @@ module _ (R : ℕ → Type 0) (D : Source Place) (refuses : Refuses R D) where
     unfolding schedule_action
     schedule_ok at = timed (sample_timeout row D.values at) (timeout-ok at)
       where
-        lasting : (t : ℕ) → t ≤ max_sampled_timeout → (x : Result (Draw ℕ) Refusal) → WholeOk R (λ v. v ≤ max_sampled_duration) x
+        lasting : (t : ℕ) → t ≤ max_sampled_timeout → (x : Result (Draw ℕ) ℕ) → WholeOk R (λ v. v ≤ max_sampled_duration) x
             → ScheduledOk R row (with_duration row t x)
         lasting t l (Err n) h = h
         lasting t l (Ok w) h = record { kind = refl; flags = refl; timer = refl; timeout = l; duration = h }
 
-        timed : (x : Result (Draw ℕ) Refusal) → WholeOk R (λ v. v ≤ max_sampled_timeout) x → ScheduledOk R row (with_timeout row D.values x)
+        timed : (x : Result (Draw ℕ) ℕ) → WholeOk R (λ v. v ≤ max_sampled_timeout) x → ScheduledOk R row (with_timeout row D.values x)
         timed (Err n) h = h
         timed (Ok w) h = lasting w.value h (sample_duration row D.values w.at) (duration-ok w.at)
 
@@ -214,23 +213,23 @@ module _ (R : ℕ → Type 0) (D : Source Place) (refuses : Refuses R D) where
         (changed (change_of row k D.values at other)
         (either (WholeOk R (λ v. Unit)) (eqb (get_or row (k + 1) 0) 1) _ _ tt (value-ok k at))))
       where
-        changed : (x : Result (Draw ℕ) Refusal) → WholeOk R (λ v. Unit) x → CountedOk R (changed_by (get_or row k 0) old zeroed x)
+        changed : (x : Result (Draw ℕ) ℕ) → WholeOk R (λ v. Unit) x → CountedOk R (changed_by (get_or row k 0) old zeroed x)
         changed (Err n) h = h
         changed (Ok w) h = tt
 
-        tally : (x : Result Counter Refusal) → CountedOk R x → TalliedOk R (tallied f x)
+        tally : (x : Result Counter ℕ) → CountedOk R x → TalliedOk R (tallied f x)
         tally (Err n) h = h
         tally (Ok c) h = tt
 
-  abbrev AllOk : List (Tally → Result Tally Refusal) → Type 0
+  abbrev AllOk : List (Tally → Result Tally ℕ) → Type 0
   AllOk [] = Unit
   AllOk (f ∷ fs) = ((t : Tally) → TalliedOk R (f t)) × AllOk fs
 
-  tally-each-ok : (fs : List (Tally → Result Tally Refusal)) → AllOk fs → (t : Tally) → TalliedOk R (tally_each fs t)
+  tally-each-ok : (fs : List (Tally → Result Tally ℕ)) → AllOk fs → (t : Tally) → TalliedOk R (tally_each fs t)
   tally-each-ok [] h t = tt
   tally-each-ok (f ∷ fs) h t = next (f t) (h.0 t) (tally-each-ok fs h.1)
     where
-      next : (x : Result Tally Refusal) → TalliedOk R x → ((u : Tally) → TalliedOk R (tally_each fs u))
+      next : (x : Result Tally ℕ) → TalliedOk R x → ((u : Tally) → TalliedOk R (tally_each fs u))
           → TalliedOk R (and_tally x (tally_each fs))
       next (Err n) o g = o
       next (Ok u) o g = g u

@@ -1,7 +1,6 @@
 -- framework.rs: an event over all machines (process_event), and the signals after the last event. A run is a framework, the
 -- pending actions and what the call shares; a refusal inside it stops it.
 use Rattle.std.specs.Prelude.{Result, Ok, Err}
-use Rattle.refusal.specs.declared.Refusal.{Refusal}
 use Rattle.steps.specs.declared.Step.{Step}
 use Rattle.std.specs.Prelude.{ℕ, zero, suc, ◌+◌, ◌-◌, ◌*◌, min, List, Bool, cond, not, ◌&&◌, ◌||◌, get_or, set, ltb, leb, eqb}
 use Rattle.refusal.specs.Refusal.{number}
@@ -105,8 +104,8 @@ env_of T D fw i =
     env (states_of T i) T.transitions D (context_of T.machines i fw.current_time fw.fixed fw.totals)
 
 -- a machine's step goes back into the run; the other machines stay as they were
-abbrev pub stored : Run → ℕ → Result Step Refusal → Outcome
-stored x i (Err r) = stop (number r)
+abbrev pub stored : Run → ℕ → Result Step ℕ → Outcome
+stored x i (Err r) = stop r
 stored x i (Ok d) = go (record {
   framework = with_runtime x.framework (set x.framework.runtime i d.runtime);
   actions = set x.actions i d.action;
@@ -199,14 +198,14 @@ abbrev pub limit_falls : ℕ → ℕ → ℕ → Bool
 limit_falls kind machine i = (eqb kind padding_sent || eqb kind blocking_begin || eqb kind timer_begin_kind) && eqb i machine
 
 -- only where the machine neither changed state nor ended
-abbrev pub after_transition : Env → Bool → Result Step Refusal → Result Step Refusal
+abbrev pub after_transition : Env → Bool → Result Step ℕ → Result Step ℕ
 after_transition E falls (Err n) = Err n
 after_transition E falls (Ok d) =
     cond (falls && not d.changed && not (eqb d.runtime.current_state state_end))
     (decrement_limit E d.runtime d.shared d.action)
     (Ok d)
 
-unfoldable pub turn : Env → ℕ → Bool → ℕ → MachineRuntime → Shared → TriggerAction → Result Step Refusal
+unfoldable pub turn : Env → ℕ → Bool → ℕ → MachineRuntime → Shared → TriggerAction → Result Step ℕ
 turn E kind falls blocked r s p = after_transition E falls (transition E (event_of kind) (counted_by kind blocked r) s p)
 
 unfoldable pub machine_turn : Tables → Source Place → ℕ → ℕ → ℕ → ℕ → Run → Outcome

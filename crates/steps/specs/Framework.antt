@@ -1,7 +1,6 @@
 -- framework.rs: the opening (Framework::new), a batch of events (trigger_events) with its refusals and its output, and
 -- all_machines_ended.
 use Rattle.std.specs.Prelude.{Result, Ok, Err}
-use Rattle.refusal.specs.declared.Refusal.{Refusal}
 use Rattle.machine.specs.declared.source.Draw.{Draw}
 use Rattle.std.specs.Prelude.{ℕ, zero, suc, ◌+◌, ◌*◌, ◌/◌, ◌%◌, List, [], ◌∷◌, ◌++◌, Bool, true, false, cond, ◌&&◌, ◌||◌, length, get_or, set, drop, replicate, ltb, leb, eqb, Float}
 use Rattle.numbers.specs.Finite.{zero_f}
@@ -79,20 +78,20 @@ new_runtime time allowed limit = record {
 }
 
 -- the start state's limit; without an action it stays 0
-unfoldable pub start_limit : List ℕ → Values Place → Place → Result (Draw ℕ) Refusal
+unfoldable pub start_limit : List ℕ → Values Place → Place → Result (Draw ℕ) ℕ
 start_limit row values at = cond (eqb (action_of row) 0) (got_whole 0 at) (sample_limit row values at)
 
 -- machine i as it opens at a time, and where the source goes on
-abbrev pub opened_with : ℕ → ℕ → Result (Draw ℕ) Refusal → Result (Draw MachineRuntime) Refusal
+abbrev pub opened_with : ℕ → ℕ → Result (Draw ℕ) ℕ → Result (Draw MachineRuntime) ℕ
 opened_with time allowed (Err n) = Err n
 opened_with time allowed (Ok w) = Ok (draw (new_runtime time allowed w.value) w.at)
 
-unfoldable pub open_machine : Tables → Values Place → ℕ → ℕ → Place → Result (Draw MachineRuntime) Refusal
+unfoldable pub open_machine : Tables → Values Place → ℕ → ℕ → Place → Result (Draw MachineRuntime) ℕ
 open_machine T values i time at =
     opened_with time (machine_word T.machines i allowed_blocked_microsec) (start_limit (state_row (states_of T i) 0) values at)
 
-abbrev pub opened : ℕ → Run → Result (Draw MachineRuntime) Refusal → Outcome
-opened i x (Err r) = stop (number r)
+abbrev pub opened : ℕ → Run → Result (Draw MachineRuntime) ℕ → Outcome
+opened i x (Err r) = stop r
 opened i x (Ok d) = go (record {
   framework = with_runtime x.framework (set x.framework.runtime i d.value);
   actions = x.actions;

@@ -2,7 +2,6 @@
 use Rattle.machine.specs.Source.{draw}
 use Rattle.std.specs.Prelude.{Ok}
 use Rattle.std.specs.Prelude.{Result, Err}
-use Rattle.refusal.specs.declared.Refusal.{Refusal}
 use Rattle.machine.specs.declared.source.Draw.{Draw}
 use Rattle.steps.specs.declared.Step.{Step}
 use Prim.Native.Nat.{ℕ, zero, suc, ◌<◌}
@@ -52,7 +51,7 @@ module _ (R : ℕ → Type 0) (P : Run → Type 0) (T : Tables) (D : Source Plac
       row : List ℕ
       row = state_row (states_of T i) 0
 
-      with : (w : Result (Draw ℕ) Refusal) → WholeOk R (λ v. Unit) w
+      with : (w : Result (Draw ℕ) ℕ) → WholeOk R (λ v. Unit) w
           → OutcomeOk R P (opened i x (opened_with x.framework.current_time (machine_word T.machines i allowed_blocked_microsec) w))
       with (Err n) o = o
       with (Ok w) o = comes i w.value w.at x p
@@ -89,7 +88,7 @@ module _ (F : Family) (M : ℕ) where
   open F use {RefusedBy, Machine, Action, Signal}
 
   -- a machine's step goes back into the run
-  store_kept : (x : Run) (k : ℕ) → k < M → InRun F M x → (s : Result Step Refusal) → Stays (member F k) s
+  store_kept : (x : Run) (k : ℕ) → k < M → InRun F M x → (s : Result Step ℕ) → Stays (member F k) s
       → OutcomeOk RefusedBy (InRun F M) (stored x k s)
   store_kept x k h v (Err n) o = o
   store_kept x k h v (Ok d) o = record {

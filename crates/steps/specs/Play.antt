@@ -10,7 +10,6 @@ use Rattle.std.proofs.Common.{sym, ap, ◌∙◌}
 use Rattle.std.specs.Float.{binary64}
 use Rattle.std.specs.Float.Ieee.{fits}
 use Rattle.machine.specs.Constants.{timeout, duration, limit, counter_a, counter_b}
-use Rattle.refusal.specs.declared.Refusal.{Refusal}
 use Rattle.machine.specs.Source.{Drawn, no, got, Source}
 use Rattle.machine.specs.Event.{counter_zero, signal}
 use Rattle.machine.specs.declared.source.Place.{Place}
@@ -229,7 +228,7 @@ pub plays_on : {A B X Y : Type 0} (Sound : Type 0) (view : Drawn Place A → X) 
     (view' : Drawn Place B → Y) (Mid : A → ℕ → B → Counts → Counts → Type 0) (Post' : ℕ → B → Counts → Counts → Type 0)
     (f : Source Place → Place → X) (g : Source Place → Place → X → Y) (h : A → Source Place → Place → Y)
     → Plays Sound view Post f
-    → ((D : Source Place) (n : Refusal) (s₀ s : Place) → g D s₀ (view (no n s)) ≡ view' (no n s))
+    → ((D : Source Place) (n : ℕ) (s₀ s : Place) → g D s₀ (view (no n s)) ≡ view' (no n s))
     → ((D : Source Place) (a : A) (s₀ s : Place) → g D s₀ (view (got a s)) ≡ h a D s)
     → ((a : A) → Plays Sound view' (Mid a) (h a))
     → ((i : ℕ) (a : A) (b : B) (k k' k'' : Counts) → Post i a k k' → Mid a i b k' k'' → Post' i b k k'')
@@ -255,7 +254,7 @@ pub plays_then : {A B X Y : Type 0} (Sound : Type 0) (view : Drawn Place A → X
     (view' : Drawn Place B → Y) (Mid : A → ℕ → B → Counts → Counts → Type 0) (Post' : ℕ → B → Counts → Counts → Type 0)
     (f : Source Place → Place → X) (g : Source Place → X → Y)
     → Plays Sound view Post f
-    → ((D : Source Place) (n : Refusal) (s : Place) → g D (view (no n s)) ≡ view' (no n s))
+    → ((D : Source Place) (n : ℕ) (s : Place) → g D (view (no n s)) ≡ view' (no n s))
     → ((a : A) → Plays Sound view' (Mid a) (λ D s. g D (view (got a s))))
     → ((i : ℕ) (a : A) (b : B) (k k' k'' : Counts) → Post i a k k' → Mid a i b k' k'' → Post' i b k k'')
     → Plays Sound view' Post' (λ D s. g D (f D s))

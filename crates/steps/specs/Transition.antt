@@ -2,7 +2,6 @@
 -- (transition, update_counter, schedule_action, decrement_limit). One machine goes in and comes back: no step touches another.
 use Rattle.std.specs.Prelude.{Float}
 use Rattle.std.specs.Prelude.{Result, Ok, Err, Option, Some, None}
-use Rattle.refusal.specs.declared.Refusal.{Refusal}
 use Rattle.machine.specs.declared.source.Draw.{Draw}
 use Rattle.steps.specs.declared.Step.{Step}
 use Rattle.std.specs.Prelude.{ℕ, zero, suc, ◌+◌, ◌-◌, ◌*◌, ◌/◌, ◌%◌, List, [], ◌∷◌, Bool, true, false, cond, not, ◌&&◌, ◌||◌, get_or, eqb}
@@ -82,15 +81,15 @@ with_signal s pending = record { signal_pending = pending; place = s.place; zero
 abbrev pub with_tally : Shared → Tally → Shared
 with_tally s t = record { signal_pending = s.signal_pending; place = t.place; zeroed = t.zeroed }
 
-abbrev pub done : MachineRuntime → Shared → TriggerAction → Bool → Result Step Refusal
+abbrev pub done : MachineRuntime → Shared → TriggerAction → Bool → Result Step ℕ
 done r s p changed = Ok (record { runtime = r; shared = s; action = p; changed = changed })
 
 -- ---- entering a state: another one draws its limit, or sets the largest; the same one keeps what is left of it
-abbrev pub entered_with : MachineRuntime → ℕ → Result (Draw ℕ) Refusal → Result (Draw MachineRuntime) Refusal
+abbrev pub entered_with : MachineRuntime → ℕ → Result (Draw ℕ) ℕ → Result (Draw MachineRuntime) ℕ
 entered_with r state (Err n) = Err n
 entered_with r state (Ok w) = Ok (draw (with_state r state w.value) w.at)
 
-unfoldable pub enter : List ℕ → Values Place → MachineRuntime → ℕ → Place → Result (Draw MachineRuntime) Refusal
+unfoldable pub enter : List ℕ → Values Place → MachineRuntime → ℕ → Place → Result (Draw MachineRuntime) ℕ
 enter row values r state at = cond (eqb r.current_state state) (Ok (draw r at)) (entered_with r state (sample_limit row values at))
 
 -- ---- a raised signal leaves out its sender, unless one was raised before
@@ -104,16 +103,16 @@ returned_flags row = cond (eqb (action_of row) cancel) 0 (cond (eqb (action_of r
 abbrev pub returned_timer : List ℕ → ℕ
 returned_timer row = cond (eqb (action_of row) cancel) (get_or row timer 0) 0
 
-abbrev pub with_duration : List ℕ → ℕ → Result (Draw ℕ) Refusal → Result (Draw TriggerAction) Refusal
+abbrev pub with_duration : List ℕ → ℕ → Result (Draw ℕ) ℕ → Result (Draw TriggerAction) ℕ
 with_duration row timeout (Err n) = Err n
 with_duration row timeout (Ok w) =
     Ok (draw (record { kind = action_of row; flags = returned_flags row; timer = returned_timer row; timeout = timeout; duration = w.value }) w.at)
 
-abbrev pub with_timeout : List ℕ → Values Place → Result (Draw ℕ) Refusal → Result (Draw TriggerAction) Refusal
+abbrev pub with_timeout : List ℕ → Values Place → Result (Draw ℕ) ℕ → Result (Draw TriggerAction) ℕ
 with_timeout row values (Err n) = Err n
 with_timeout row values (Ok w) = with_duration row w.value (sample_duration row values w.at)
 
-unfoldable pub schedule_action : List ℕ → Values Place → Place → Result (Draw TriggerAction) Refusal
+unfoldable pub schedule_action : List ℕ → Values Place → Place → Result (Draw TriggerAction) ℕ
 schedule_action row values at = with_timeout row values (sample_timeout row values at)
 
 -- ---- one counter of update_counter, which begins at word k of the row
@@ -126,25 +125,25 @@ applied operation old change =
 abbrev pub reports_zero : ℕ → ℕ → Bool → Bool
 reports_zero old value zeroed = not (eqb old 0) && eqb value 0 && not zeroed
 
-abbrev pub counter_of : Bool → ℕ → Bool → Place → Result Counter Refusal
+abbrev pub counter_of : Bool → ℕ → Bool → Place → Result Counter ℕ
 counter_of reports value zeroed at = Ok (record { value = value; zeroed = zeroed || reports; reports = reports; at = at })
 
-abbrev pub changed_by : ℕ → ℕ → Bool → Result (Draw ℕ) Refusal → Result Counter Refusal
+abbrev pub changed_by : ℕ → ℕ → Bool → Result (Draw ℕ) ℕ → Result Counter ℕ
 changed_by operation old zeroed (Err n) = Err n
 changed_by operation old zeroed (Ok w) =
     counter_of (reports_zero old (applied operation old w.value) zeroed) (applied operation old w.value) zeroed w.at
 
 -- it changes by the other counter's value from before the update where copy is set, and else by a sample
-abbrev pub change_of : List ℕ → ℕ → Values Place → Place → ℕ → Result (Draw ℕ) Refusal
+abbrev pub change_of : List ℕ → ℕ → Values Place → Place → ℕ → Result (Draw ℕ) ℕ
 change_of row k values at other = cond (eqb (get_or row (k + 1) 0) 1) (got_whole other at) (sample_value row k values at)
 
-unfoldable pub update_one : List ℕ → ℕ → Values Place → Place → ℕ → ℕ → Bool → Result Counter Refusal
+unfoldable pub update_one : List ℕ → ℕ → Values Place → Place → ℕ → ℕ → Bool → Result Counter ℕ
 update_one row k values at old other zeroed =
     cond (eqb (get_or row k 0) 0) (counter_of false old zeroed at)
     (changed_by (get_or row k 0) old zeroed (change_of row k values at other))
 
 -- ---- the counters of a row, each updated by the values from before
-abbrev pub tallied : (Counter → Tally) → Result Counter Refusal → Result Tally Refusal
+abbrev pub tallied : (Counter → Tally) → Result Counter ℕ → Result Tally ℕ
 tallied f (Err n) = Err n
 tallied f (Ok c) = Ok (f c)
 
@@ -165,30 +164,30 @@ with_b t c = record {
 }
 
 -- A copies B, and B copies A
-unfoldable pub tally_a : List ℕ → Values Place → Counters → Tally → Result Tally Refusal
+unfoldable pub tally_a : List ℕ → Values Place → Counters → Tally → Result Tally ℕ
 tally_a row values old t =
     tallied (with_a t) (update_one row counter_a values t.place old.counter_a old.counter_b t.zeroed.counter_a)
 
-unfoldable pub tally_b : List ℕ → Values Place → Counters → Tally → Result Tally Refusal
+unfoldable pub tally_b : List ℕ → Values Place → Counters → Tally → Result Tally ℕ
 tally_b row values old t =
     tallied (with_b t) (update_one row counter_b values t.place old.counter_b old.counter_a t.zeroed.counter_b)
 
 -- the order of their update
-abbrev pub counter_steps : List ℕ → Values Place → Counters → List (Tally → Result Tally Refusal)
+abbrev pub counter_steps : List ℕ → Values Place → Counters → List (Tally → Result Tally ℕ)
 counter_steps row values old = tally_a row values old ∷ tally_b row values old ∷ []
 
-abbrev pub and_tally : Result Tally Refusal → (Tally → Result Tally Refusal) → Result Tally Refusal
+abbrev pub and_tally : Result Tally ℕ → (Tally → Result Tally ℕ) → Result Tally ℕ
 and_tally (Err n) f = Err n
 and_tally (Ok t) f = f t
 
-abbrev pub tally_each : List (Tally → Result Tally Refusal) → Tally → Result Tally Refusal
+abbrev pub tally_each : List (Tally → Result Tally ℕ) → Tally → Result Tally ℕ
 tally_each [] t = Ok t
 tally_each (f ∷ fs) t = and_tally (f t) (tally_each fs)
 
 abbrev pub untallied : Counters → Zeroed → Place → Tally
 untallied counters zeroed at = record { counters = counters; place = at; zeroed = zeroed; reports = false }
 
-unfoldable pub update_counters : List ℕ → Values Place → Counters → Zeroed → Place → Result Tally Refusal
+unfoldable pub update_counters : List ℕ → Values Place → Counters → Zeroed → Place → Result Tally ℕ
 update_counters row values old zeroed at = tally_each (counter_steps row values old) (untallied old zeroed at)
 
 -- ---- after the counters: the action is scheduled where the limits were not reached before the counter update, and where a
@@ -196,22 +195,22 @@ update_counters row values old zeroed at = tally_each (counter_steps row values 
 abbrev pub has_changed : ℕ → Update → Bool
 has_changed before u = u.state_changed || not (eqb before u.runtime.current_state)
 
-abbrev pub scheduled_step : Update → Bool → Result (Draw TriggerAction) Refusal → Result Step Refusal
+abbrev pub scheduled_step : Update → Bool → Result (Draw TriggerAction) ℕ → Result Step ℕ
 scheduled_step u changed (Err n) = Err n
 scheduled_step u changed (Ok d) = done u.runtime (with_place u.shared d.at) d.value changed
 
-unfoldable pub finish : List ℕ → Values Place → ℕ → Bool → Update → Result Step Refusal
+unfoldable pub finish : List ℕ → Values Place → ℕ → Bool → Update → Result Step ℕ
 finish row values before below u =
     cond (u.allow_schedule && below)
     (scheduled_step u (has_changed before u) (schedule_action row values u.shared.place))
     (done u.runtime u.shared u.action (has_changed before u))
 
-abbrev pub finished : List ℕ → Values Place → ℕ → Bool → Result Update Refusal → Result Step Refusal
+abbrev pub finished : List ℕ → Values Place → ℕ → Bool → Result Update ℕ → Result Step ℕ
 finished row values before below (Err n) = Err n
 finished row values before below (Ok u) = finish row values before below u
 
 -- ---- after a CounterZero the outer action is set only if the machine has none yet, one from an earlier event included
-abbrev pub after_zero : Result Step Refusal → Result Update Refusal
+abbrev pub after_zero : Result Step ℕ → Result Update ℕ
 after_zero (Err n) = Err n
 after_zero (Ok d) =
     Ok (record { runtime = d.runtime; shared = d.shared; action = d.action; allow_schedule = eqb d.action.kind 0; state_changed = d.changed })
@@ -227,24 +226,24 @@ counted r s p t = record {
 }
 
 -- ---- transition and update_counter, given what a CounterZero transition does
-module _ (zero_transition : MachineRuntime → Shared → TriggerAction → Result Step Refusal) (E : Env) where
-  abbrev pub after_counters : MachineRuntime → Shared → TriggerAction → Result Tally Refusal → Result Update Refusal
+module _ (zero_transition : MachineRuntime → Shared → TriggerAction → Result Step ℕ) (E : Env) where
+  abbrev pub after_counters : MachineRuntime → Shared → TriggerAction → Result Tally ℕ → Result Update ℕ
   after_counters r s p (Err n) = Err n
   after_counters r s p (Ok t) =
       cond t.reports (after_zero (zero_transition (with_counters r t.counters) (with_tally s t) p)) (Ok (counted r s p t))
 
   -- update_counter, of the row of the machine's state
-  unfoldable pub update_counter : List ℕ → MachineRuntime → Shared → TriggerAction → Result Update Refusal
+  unfoldable pub update_counter : List ℕ → MachineRuntime → Shared → TriggerAction → Result Update ℕ
   update_counter row r s p = after_counters r s p (update_counters row E.source.values r.counters s.zeroed s.place)
 
   -- in the next state: limits are judged before the counters
-  abbrev pub entering : List ℕ → ℕ → Shared → TriggerAction → Result (Draw MachineRuntime) Refusal → Result Step Refusal
+  abbrev pub entering : List ℕ → ℕ → Shared → TriggerAction → Result (Draw MachineRuntime) ℕ → Result Step ℕ
   entering row before s p (Err n) = Err n
   entering row before s p (Ok d) =
       finished row E.source.values before (below_action_limits E.context d.value row) (update_counter row d.value (with_place s d.at) p)
 
   -- END is a change and neither sets nor clears an action; SIGNAL is no change
-  abbrev pub going : MachineRuntime → Shared → TriggerAction → Option ℕ → Result Step Refusal
+  abbrev pub going : MachineRuntime → Shared → TriggerAction → Option ℕ → Result Step ℕ
   going r s p None = done r s p false
   going r s p (Some next) =
       cond (eqb next state_end) (done (with_state r state_end r.state_limit) s p true)
@@ -252,20 +251,20 @@ module _ (zero_transition : MachineRuntime → Shared → TriggerAction → Resu
       (entering (state_row E.rows next) r.current_state s p
       (enter (state_row E.rows next) E.source.values r next s.place)))
 
-  abbrev pub drawn : List ℕ → ℕ → MachineRuntime → Shared → TriggerAction → Result (Draw Float) Refusal → Result Step Refusal
+  abbrev pub drawn : List ℕ → ℕ → MachineRuntime → Shared → TriggerAction → Result (Draw Float) ℕ → Result Step ℕ
   drawn row event r s p (Err n) = Err n
   drawn row event r s p (Ok d) =
       going r (with_place s d.at) p (sample_state E.transitions (first_of row event) (count_of row event) d.value)
 
   -- a machine that has ended does nothing; without a row for the event nothing is drawn
-  abbrev pub choosing : ℕ → MachineRuntime → Shared → TriggerAction → Result Step Refusal
+  abbrev pub choosing : ℕ → MachineRuntime → Shared → TriggerAction → Result Step ℕ
   choosing event r s p =
       cond (eqb r.current_state state_end) (done r s p false)
       (cond (eqb (count_of (state_row E.rows r.current_state) event) 0) (done r s p false)
       (drawn (state_row E.rows r.current_state) event r s p (chance_draw E.source.chance s.place)))
 
   -- transition: the attempt is told to the source
-  unfoldable pub transition_by : ℕ → MachineRuntime → Shared → TriggerAction → Result Step Refusal
+  unfoldable pub transition_by : ℕ → MachineRuntime → Shared → TriggerAction → Result Step ℕ
   transition_by event r s p =
       choosing event r (with_place s (E.source.attempt event E.context.machine s.place)) p
 
@@ -277,23 +276,23 @@ abbrev pub left : Shared → ℕ
 left s = unspent s.zeroed.counter_a + unspent s.zeroed.counter_b
 
 -- the CounterZero transition where n counters may still report; with none left it is never met
-unfoldable pub zero_transition : ℕ → Env → MachineRuntime → Shared → TriggerAction → Result Step Refusal
+unfoldable pub zero_transition : ℕ → Env → MachineRuntime → Shared → TriggerAction → Result Step ℕ
 zero_transition zero E r s p = done r s p false
 zero_transition (suc n) E r s p = transition_by (zero_transition n E) E counter_zero r s p
 
-abbrev pub transition_at : ℕ → Env → ℕ → MachineRuntime → Shared → TriggerAction → Result Step Refusal
+abbrev pub transition_at : ℕ → Env → ℕ → MachineRuntime → Shared → TriggerAction → Result Step ℕ
 transition_at n E = transition_by (zero_transition n E) E
 
-abbrev pub update_counter_at : ℕ → Env → List ℕ → MachineRuntime → Shared → TriggerAction → Result Update Refusal
+abbrev pub update_counter_at : ℕ → Env → List ℕ → MachineRuntime → Shared → TriggerAction → Result Update ℕ
 update_counter_at n E = update_counter (zero_transition n E) E
 
 -- transition: each counter reports once at the most
-abbrev pub transition : Env → ℕ → MachineRuntime → Shared → TriggerAction → Result Step Refusal
+abbrev pub transition : Env → ℕ → MachineRuntime → Shared → TriggerAction → Result Step ℕ
 transition E = transition_at counter_num E
 
 -- ---- decrement_limit: the state limit falls by 1, not below 0. At 0, where the action has a limit, the pending action goes and
 -- LimitReached follows.
-unfoldable pub decrement_limit : Env → MachineRuntime → Shared → TriggerAction → Result Step Refusal
+unfoldable pub decrement_limit : Env → MachineRuntime → Shared → TriggerAction → Result Step ℕ
 decrement_limit E r s p =
     cond (eqb (r.state_limit - 1) 0 && has_limit (state_row E.rows r.current_state))
     (transition E limit_reached (with_state r r.current_state (r.state_limit - 1)) s no_action)

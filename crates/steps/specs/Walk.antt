@@ -1,8 +1,6 @@
 -- The walk over one machine's steps: what entering a state, the counters, END, SIGNAL, a scheduled action and the fall of a limit keep,
 -- a transition, a turn and a signal keep. A lemma for each definition of `Transition`. Assumes nothing.
-use Rattle.refusal.specs.Refusal.{number}
 use Rattle.std.specs.Prelude.{Result, Ok, Err, Option, Some, None}
-use Rattle.refusal.specs.declared.Refusal.{Refusal}
 use Rattle.machine.specs.declared.source.Draw.{Draw}
 use Rattle.steps.specs.declared.Step.{Step}
 use Rattle.steps.specs.declared.Tally.{Tally}
@@ -66,19 +64,19 @@ pub record Closed (E : Env) (K : Kept) : Type 0 where
   pub raises : (pending : ℕ) → K.Signal pending → K.Signal (raise pending E.context.machine)
 
 -- it holds after a step
-abbrev pub Stays : Kept → Result Step Refusal → Type 0
-Stays K (Err r) = K.RefusedBy (number r)
+abbrev pub Stays : Kept → Result Step ℕ → Type 0
+Stays K (Err r) = K.RefusedBy r
 Stays K (Ok d) = K.Machine d.runtime × K.Action d.action × K.Signal d.shared.signal_pending
 
 module _ (E : Env) (K : Kept) (C : Closed E K) where
   open K use {RefusedBy, Machine, Action, Signal}
 
-  abbrev UpdateStays : Result Update Refusal → Type 0
-  UpdateStays (Err r) = RefusedBy (number r)
+  abbrev UpdateStays : Result Update ℕ → Type 0
+  UpdateStays (Err r) = RefusedBy r
   UpdateStays (Ok u) = Machine u.runtime × Action u.action × Signal u.shared.signal_pending
 
-  abbrev EntryStays : ℕ → Result (Draw MachineRuntime) Refusal → Type 0
-  EntryStays next (Err r) = RefusedBy (number r)
+  abbrev EntryStays : ℕ → Result (Draw MachineRuntime) ℕ → Type 0
+  EntryStays next (Err r) = RefusedBy r
   EntryStays next (Ok d) = Machine d.value × (d.value.current_state ≡ next)
 
   -- ---- entering a state
@@ -89,7 +87,7 @@ module _ (E : Env) (K : Kept) (C : Closed E K) where
       by_test (EntryStays next) (eqb r.current_state next) _ _ (λ e. (h, eqb-true r.current_state next e))
       (λ e. with (sample_limit row E.source.values at) (limit_ok RefusedBy E.source C.refuses row at))
     where
-      with : (x : Result (Draw ℕ) Refusal) → WholeOk RefusedBy (λ v. Unit) x → EntryStays next (entered_with r next x)
+      with : (x : Result (Draw ℕ) ℕ) → WholeOk RefusedBy (λ v. Unit) x → EntryStays next (entered_with r next x)
       with (Err n) o = o
       with (Ok w) o = (C.enters r next w.value h c, refl)
 
@@ -108,18 +106,18 @@ module _ (E : Env) (K : Kept) (C : Closed E K) where
       second false true e = refl
       second false false e = e
 
-      set : ((a : TriggerAction) → Gives row a → Action a) → (x : Result (Draw TriggerAction) Refusal) → ScheduledOk RefusedBy row x
+      set : ((a : TriggerAction) → Gives row a → Action a) → (x : Result (Draw TriggerAction) ℕ) → ScheduledOk RefusedBy row x
           → Stays K (scheduled_step u (has_changed before u) x)
       set j (Err n) g = g
       set j (Ok d) g = (o.0, j d.value g, o.2)
 
   -- ---- transition and update_counter, given that a CounterZero transition keeps it
-  abbrev Again : (MachineRuntime → Shared → TriggerAction → Result Step Refusal) → Type 0
+  abbrev Again : (MachineRuntime → Shared → TriggerAction → Result Step ℕ) → Type 0
   Again z =
       (r : MachineRuntime) (s : Shared) (a : TriggerAction) → Machine r → Action a → Signal s.signal_pending
       → Stays K (z r s a)
 
-  module _ (z : MachineRuntime → Shared → TriggerAction → Result Step Refusal) (again : Again z) where
+  module _ (z : MachineRuntime → Shared → TriggerAction → Result Step ℕ) (again : Again z) where
     update-kept : (row : List ℕ) (r : MachineRuntime) (s : Shared) (a : TriggerAction) → Machine r → Action a
         → Signal s.signal_pending → UpdateStays (update_counter z E row r s a)
     unfolding update_counter
@@ -127,11 +125,11 @@ module _ (E : Env) (K : Kept) (C : Closed E K) where
         counted (update_counters row E.source.values r.counters s.zeroed s.place)
         (counters_ok RefusedBy E.source C.refuses row r.counters s.zeroed s.place)
       where
-        after : (x : Result Step Refusal) → Stays K x → UpdateStays (after_zero x)
+        after : (x : Result Step ℕ) → Stays K x → UpdateStays (after_zero x)
         after (Err n) o = o
         after (Ok d) o = o
 
-        counted : (x : Result Tally Refusal) → TalliedOk RefusedBy x → UpdateStays (after_counters z E r s a x)
+        counted : (x : Result Tally ℕ) → TalliedOk RefusedBy x → UpdateStays (after_counters z E r s a x)
         counted (Err n) o = o
         counted (Ok t) o =
             let k = C.counters r t.counters h in
@@ -140,7 +138,7 @@ module _ (E : Env) (K : Kept) (C : Closed E K) where
             (again (with_counters r t.counters) (with_tally s t) a k p q)) (k, p, q)
 
     entering-kept : (next before : ℕ) (s : Shared) (a : TriggerAction) → (next ≡ state_end → ⊥) → Action a
-        → Signal s.signal_pending → (x : Result (Draw MachineRuntime) Refusal) → EntryStays next x
+        → Signal s.signal_pending → (x : Result (Draw MachineRuntime) ℕ) → EntryStays next x
         → Stays K (entering z E (state_row E.rows next) before s a x)
     entering-kept next before s a e p q (Err n) o = o
     entering-kept next before s a e p q (Ok d) o =
@@ -156,7 +154,7 @@ module _ (E : Env) (K : Kept) (C : Closed E K) where
             (subst (λ (m : ℕ). below_action_limits E.context d.value (state_row E.rows m) ≡ true) (sym o.1) h)
             (subst (λ (m : ℕ). Gives (state_row E.rows m) b) (sym o.1) g)
 
-        finished-kept : (x : Result Update Refusal) → UpdateStays x
+        finished-kept : (x : Result Update ℕ) → UpdateStays x
             → Stays K (finished row E.source.values before (below_action_limits E.context d.value row) x)
         finished-kept (Err n) u = u
         finished-kept (Ok u) w = finish-kept row before (below_action_limits E.context d.value row) passes u w
@@ -187,7 +185,7 @@ module _ (E : Env) (K : Kept) (C : Closed E K) where
         (chosen (eqb-false r.current_state state_end e) (chance_draw E.source.chance s.place)
         (chance_ok RefusedBy E.source C.refuses s.place)))
       where
-        chosen : Alive r → (x : Result (Draw Float) Refusal) → ChanceOk RefusedBy x → Stays K (drawn z E (row_of E r) event r s a x)
+        chosen : Alive r → (x : Result (Draw Float) ℕ) → ChanceOk RefusedBy x → Stays K (drawn z E (row_of E r) event r s a x)
         chosen l (Err n) o = o
         chosen l (Ok d) o =
             going-kept event d.value r (with_place s d.at) a h l p q
@@ -223,7 +221,7 @@ module _ (E : Env) (K : Kept) (C : Closed E K) where
       after (transition E (event_of kind) (counted_by kind blocked r) s a)
       (transition_kept (event_of kind) (counted_by kind blocked r) s a h p q)
     where
-      after : (x : Result Step Refusal) → Stays K x → Stays K (after_transition E falls x)
+      after : (x : Result Step ℕ) → Stays K x → Stays K (after_transition E falls x)
       after (Err n) o = o
       after (Ok d) o =
           either (Stays K) (falls && not d.changed && not (eqb d.runtime.current_state state_end)) _ _

@@ -1,7 +1,6 @@
 -- A counter that reports zero uses up its report, so that fewer may follow: what makes the recursion of transition and counter
 -- update end. Assumes nothing.
 use Rattle.std.specs.Prelude.{Result, Ok, Err}
-use Rattle.refusal.specs.declared.Refusal.{Refusal}
 use Rattle.machine.specs.declared.source.Draw.{Draw}
 use Rattle.steps.specs.declared.Counter.{Counter}
 use Prim.Native.Nat.{ℕ, zero, suc, ◌+◌, ◌-◌, ◌≤◌, ◌<◌}
@@ -28,7 +27,7 @@ use Rattle.steps.specs.declared.Zeroed.{Zeroed}
 abbrev one : Bool → ℕ
 one b = cond b 1 0
 
-abbrev Spent : Bool → Result Counter Refusal → Type 0
+abbrev Spent : Bool → Result Counter ℕ → Type 0
 Spent z (Err n) = Unit
 Spent z (Ok c) = unspent c.zeroed + one c.reports ≡ unspent z
 
@@ -45,7 +44,7 @@ spent : (row : List ℕ) (k : ℕ) (values : Values Place) (at : Place) (old oth
 unfolding update_one
 spent row k values at old other z = by-case (eqb (get_or row k 0) 0) (change_of row k values at other)
   where
-    by-case : (none : Bool) (d : Result (Draw ℕ) Refusal) → Spent z (cond none (counter_of false old z at) (changed_by (get_or row k 0) old z d))
+    by-case : (none : Bool) (d : Result (Draw ℕ) ℕ) → Spent z (cond none (counter_of false old z at) (changed_by (get_or row k 0) old z d))
     by-case true d = made_spent true true z old at
     by-case false (Err n) = tt
     by-case false (Ok w) =
@@ -55,7 +54,7 @@ spent row k values at old other z = by-case (eqb (get_or row k 0) 0) (change_of 
 abbrev weight : Tally → ℕ
 weight t = unspent t.zeroed.counter_a + unspent t.zeroed.counter_b + one t.reports
 
-abbrev Lighter : ℕ → Result Tally Refusal → Type 0
+abbrev Lighter : ℕ → Result Tally ℕ → Type 0
 Lighter n (Err k) = Unit
 Lighter n (Ok t) = weight t ≤ n
 
@@ -69,7 +68,7 @@ a_lighter row values old t =
     go (update_one row counter_a values t.place old.counter_a old.counter_b t.zeroed.counter_a)
     (spent row counter_a values t.place old.counter_a old.counter_b t.zeroed.counter_a)
   where
-    go : (x : Result Counter Refusal) → Spent t.zeroed.counter_a x → Lighter (weight t) (tallied (with_a t) x)
+    go : (x : Result Counter ℕ) → Spent t.zeroed.counter_a x → Lighter (weight t) (tallied (with_a t) x)
     go (Err n) h = tt
     go (Ok c) h = omega (arith, h, one_or t.reports c.reports)
 
@@ -79,20 +78,20 @@ b_lighter row values old t =
     go (update_one row counter_b values t.place old.counter_b old.counter_a t.zeroed.counter_b)
     (spent row counter_b values t.place old.counter_b old.counter_a t.zeroed.counter_b)
   where
-    go : (x : Result Counter Refusal) → Spent t.zeroed.counter_b x → Lighter (weight t) (tallied (with_b t) x)
+    go : (x : Result Counter ℕ) → Spent t.zeroed.counter_b x → Lighter (weight t) (tallied (with_b t) x)
     go (Err n) h = tt
     go (Ok c) h = omega (arith, h, one_or t.reports c.reports)
 
 -- each in turn
-abbrev AllLighter : List (Tally → Result Tally Refusal) → Type 0
+abbrev AllLighter : List (Tally → Result Tally ℕ) → Type 0
 AllLighter [] = Unit
 AllLighter (f ∷ fs) = ((t : Tally) → Lighter (weight t) (f t)) × AllLighter fs
 
-each_lighter : (fs : List (Tally → Result Tally Refusal)) → AllLighter fs → (n : ℕ) (t : Tally) → weight t ≤ n → Lighter n (tally_each fs t)
+each_lighter : (fs : List (Tally → Result Tally ℕ)) → AllLighter fs → (n : ℕ) (t : Tally) → weight t ≤ n → Lighter n (tally_each fs t)
 each_lighter [] h n t l = l
 each_lighter (f ∷ fs) h n t l = go (f t) (h.0 t) (each_lighter fs h.1 n)
   where
-    go : (x : Result Tally Refusal) → Lighter (weight t) x → ((u : Tally) → weight u ≤ n → Lighter n (tally_each fs u)) →
+    go : (x : Result Tally ℕ) → Lighter (weight t) x → ((u : Tally) → weight u ≤ n → Lighter n (tally_each fs u)) →
         Lighter n (and_tally x (tally_each fs))
     go (Err k) h rest = tt
     go (Ok u) h rest = rest u (le_trans h l)

@@ -1,6 +1,5 @@
 -- Where the short way holds, it is the machine's turn: `kept_turn`, `acted_turn`. Assumes nothing.
 use Rattle.std.specs.Prelude.{Result, Ok, Err, Option, Some, None}
-use Rattle.refusal.specs.declared.Refusal.{Refusal}
 use Rattle.machine.specs.declared.source.Draw.{Draw}
 use Rattle.std.specs.Prelude.{ℕ, List, Bool, cond, not, ◌&&◌, ◌||◌, ◌≡◌}
 use Rattle.std.proofs.Math.Bool.{true, false}
@@ -39,7 +38,7 @@ step_after r s p d = record {
 }
 
 -- what an answer of the short way says of the turn x
-abbrev Says : MachineRuntime → Shared → TriggerAction → Short → Result Step Refusal → Type 0
+abbrev Says : MachineRuntime → Shared → TriggerAction → Short → Result Step ℕ → Type 0
 Says r s p Elsewhere x = x ≡ x
 Says r s p (Kept d) x = x ≡ Ok (step_after r s p d)
 Says r s p (Acted q d) x = x ≡ Ok (step_after r s q d)
@@ -60,7 +59,7 @@ module _ (n : ℕ) (E : Env) (falls : Bool) (r : MachineRuntime) (s : Shared) (p
       abbrev u : Update
       u = counted q (with_place s at) p t
 
-      scheduled : (below : Bool) (x : Result (Draw TriggerAction) Refusal) →
+      scheduled : (below : Bool) (x : Result (Draw TriggerAction) ℕ) →
           Says r s p (cond below (scheduled_in q t x) (Kept (move_of q t t.place)))
           (after_transition E falls
           (cond below
@@ -70,7 +69,7 @@ module _ (n : ℕ) (E : Env) (falls : Bool) (r : MachineRuntime) (s : Shared) (p
       scheduled true (Ok d) = rw (no_fall falls (eqb r.current_state state) (not (eqb state state_end)) still)
       scheduled false x = rw (no_fall falls (eqb r.current_state state) (not (eqb state state_end)) still)
 
-      reported : (reports : Bool) (zero : Result Update Refusal) →
+      reported : (reports : Bool) (zero : Result Update ℕ) →
           Says r s p (cond reports Elsewhere (settle_in row E.source.values E.context q t))
           (after_transition E falls
           (finished row E.source.values r.current_state (below_action_limits E.context q row)
@@ -80,7 +79,7 @@ module _ (n : ℕ) (E : Env) (falls : Bool) (r : MachineRuntime) (s : Shared) (p
       reported false zero =
           scheduled (below_action_limits E.context q row) (schedule_action row E.source.values t.place)
 
-    tallied : (at : Place) (x : Result Tally Refusal) →
+    tallied : (at : Place) (x : Result Tally ℕ) →
         Says r s p (settle_with row E.source.values E.context q x)
         (after_transition E falls
         (finished row E.source.values r.current_state (below_action_limits E.context q row)
@@ -95,7 +94,7 @@ module _ (n : ℕ) (E : Env) (falls : Bool) (r : MachineRuntime) (s : Shared) (p
     entered at = tallied at (update_counters row E.source.values r.counters s.zeroed at)
 
   -- another state, by its limit
-  drawn : (row : List ℕ) (next : ℕ) (x : Result (Draw ℕ) Refusal) → (falls && eqb r.current_state next) ≡ false →
+  drawn : (row : List ℕ) (next : ℕ) (x : Result (Draw ℕ) ℕ) → (falls && eqb r.current_state next) ≡ false →
       Says r s p (settle_from row E.source.values E.context s.zeroed (entered_with r next x))
       (after_transition E falls (entering (zero_transition n E) E row r.current_state s p (entered_with r next x)))
   drawn row next (Err k) h = refl
@@ -123,7 +122,7 @@ module _ (n : ℕ) (E : Env) (falls : Bool) (r : MachineRuntime) (s : Shared) (p
   says None = refl
   says (Some next) = by (eqb next state_end) (eqb next state_signal) (falls && eqb r.current_state next) _ _ refl
     where
-      by : (ends signals low : Bool) (x y : Result Step Refusal) → (falls && eqb r.current_state next) ≡ low →
+      by : (ends signals low : Bool) (x y : Result Step ℕ) → (falls && eqb r.current_state next) ≡ low →
           Says r s p
           (cond (ends || signals || low) Elsewhere (settle (state_row E.rows next) E.source.values E.context next r s))
           (after_transition E falls

@@ -2,6 +2,7 @@
 // its state limit. One machine goes in and comes back.
 #![tactic(auto)]
 
+ghost use Rattle.refusal.specs.Refusal.{told};
 ghost use Rattle.std.specs.Prelude.{◌≡◌, Ok, ℕ, ◌≤◌, ◌<◌};
 ghost use Rattle.steps.specs.Transition as Spec;
 ghost use Rattle.steps.specs.Transition.{lent_env, left};
@@ -28,7 +29,7 @@ use steps::{Env, Step, Update};
 #[cycle(going_transition_update_counter)]
 #[tactic(auto, unfolding(steps::specs::Transition::update_counter))]
 fn update_counter<D: Draws>(e: &Env<D>, row: &[u64], d: Step) -> Result<Update, Refusal>
-    ensures { (n : ℕ) → left d.shared ≤ n → result ≡ Spec.update_counter_at n (lent_env D.source e.now) row.now d.runtime d.shared d.action }
+    ensures { (n : ℕ) → left d.shared ≤ n → told result ≡ Spec.update_counter_at n (lent_env D.source e.now) row.now d.runtime d.shared d.action }
 {
     let t = update_counters(
         row,
@@ -55,7 +56,7 @@ fn update_counter<D: Draws>(e: &Env<D>, row: &[u64], d: Step) -> Result<Update, 
 #[cycle(going_transition_update_counter)]
 #[tactic(auto, unfolding(crate::specs::Transition::going_at))]
 pub fn going<D: Draws>(e: &Env<D>, chosen: Option<u64>, d: Step) -> Result<Step, Refusal>
-    ensures { (n : ℕ) → left d.shared ≤ n → result ≡ going_at n (lent_env D.source e.now) chosen d.runtime d.shared d.action }
+    ensures { (n : ℕ) → left d.shared ≤ n → told result ≡ going_at n (lent_env D.source e.now) chosen d.runtime d.shared d.action }
 {
     let mut t = d;
     t.changed = false;
@@ -87,7 +88,7 @@ pub fn going<D: Draws>(e: &Env<D>, chosen: Option<u64>, d: Step) -> Result<Step,
 #[cycle(going_transition_update_counter)]
 pub fn transition<D: Draws>(e: &Env<D>, event: u64, d: Step) -> Result<Step, Refusal>
     requires { event < 13 }
-    ensures { (n : ℕ) → left d.shared ≤ n → result ≡ Spec.transition_at n (lent_env D.source e.now) event d.runtime d.shared d.action }
+    ensures { (n : ℕ) → left d.shared ≤ n → told result ≡ Spec.transition_at n (lent_env D.source e.now) event d.runtime d.shared d.action }
 {
     let choice = choose(
         e.rows,
@@ -106,7 +107,7 @@ pub fn transition<D: Draws>(e: &Env<D>, event: u64, d: Step) -> Result<Step, Ref
 // LimitReached follows.
 #[tactic(auto, unfolding(steps::specs::Transition::decrement_limit))]
 fn decrement_limit<D: Draws>(e: &Env<D>, d: Step) -> Result<Step, Refusal>
-    ensures { result ≡ Spec.decrement_limit (lent_env D.source e.now) d.runtime d.shared d.action }
+    ensures { told result ≡ Spec.decrement_limit (lent_env D.source e.now) d.runtime d.shared d.action }
 {
     let mut t = d;
     t.runtime.state_limit = numbers::saturating_sub(d.runtime.state_limit, 1);
@@ -125,7 +126,7 @@ pub fn after_transition<D: Draws>(
     falls: bool,
     stepped: Result<Step, Refusal>,
 ) -> Result<Step, Refusal>
-    ensures { result ≡ Events.after_transition (lent_env D.source e.now) falls stepped }
+    ensures { told result ≡ Events.after_transition (lent_env D.source e.now) falls (told stepped) }
 {
     let d = stepped?;
     if falls && !d.changed && d.runtime.current_state != STATE_END {

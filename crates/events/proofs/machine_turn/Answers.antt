@@ -1,6 +1,7 @@
 -- `machine_turn` meets its contract, by the choice and by the way that is taken.
 use Rattle.std.specs.Prelude.{◌≡◌, true, Ok, Err}
 use Rattle.std.proofs.Common.{rules}
+use Rattle.refusal.specs.Refusal.{number}
 use Rattle.machine.specs.Source.{draw}
 use Rattle.machine.specs.Tables.{lent_tables}
 use Rattle.moves.specs.Short.{short}
@@ -21,7 +22,7 @@ returns-in_err-choice-clause-is g c =
     let T = lent_tables a.t.now in
     let D = g.D.Draws.source a.draws.now in
     let quiet = g.met.D.Draws.untold a.draws.now in
-    let missing : choice_at T D a.kind a.m a.x.now ≡ Err c.in_err-choice.field-0.0 = search rules in
+    let missing : choice_at T D a.kind a.m a.x.now ≡ Err (number c.in_err-choice.field-0.0) = search rules in
     let l = turn_stops T D quiet a.kind a.machine a.blocked a.m a.x.now missing in
     search rules
 

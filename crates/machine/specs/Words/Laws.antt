@@ -10,7 +10,6 @@ use Rattle.std.specs.Float.Ieee.{up, down, round, of_int, of_bits, div, lt, le}
 use Rattle.std.specs.Float.Ieee.Exact.{HasValue, round_exact}
 use Rattle.std.specs.Float.Ieee.Order.{le_of_values}
 use Rattle.std.specs.Float.Ieee.Scale.{round_same}
-use Rattle.refusal.specs.declared.Refusal.TheVariants.{NoDraw}
 use Rattle.machine.specs.Source.{no, got, Tells, Telling, fit_chance, place, tapes}
 use Rattle.machine.specs.Words.{chance_of, unit_of, value_of, word_chance, word_value, words, lent}
 use Rattle.machine.specs.declared.source.Place.{Place}
@@ -114,7 +113,7 @@ chance_tells : (ws : List ℕ) (at : Place) → Tells (word_chance ws at)
 chance_tells ws at = go (ltb at.value_at (length ws))
   where
     go : (b : Bool)
-        → Tells (cond b (got (chance_of (get_or ws at.value_at 0)) (place at.chance_at (at.value_at + 1))) (no NoDraw at))
+        → Tells (cond b (got (chance_of (get_or ws at.value_at 0)) (place at.chance_at (at.value_at + 1))) (no 16 at))
     go true = tt
     go false = lit< tt
 

@@ -4,7 +4,6 @@
 -- own turn changes its own counts and action alone. Assumes nothing.
 use Rattle.std.specs.Prelude.{Ok}
 use Rattle.std.specs.Prelude.{Result, Err}
-use Rattle.refusal.specs.declared.Refusal.{Refusal}
 use Rattle.steps.specs.declared.Step.{Step}
 use Rattle.std.specs.Prelude.{ℕ, suc, ◌+◌, ◌^◌, ◌≤◌, ◌<◌, Bool, true, ◌⊎◌, ◌≡◌, T, length, get_or, set}
 use Rattle.std.proofs.Math.Decide.{ℕ_discrete, dec_lt}
@@ -87,7 +86,7 @@ module _ (S : Setup) where
 
   -- ---- a machine's step goes back into the run
   pub store : (l l' : Ledger) (a : ℕ → Bool) (k n : ℕ) (x : Run) → Mid l l' a k (suc n) x → k < M
-      → (s : Result Step Refusal)
+      → (s : Result Step ℕ)
       → Stays (kept (l'.own k) (heard l' k) (Why l' a k)) s → OutcomeOk Told (Mid l l' a (k + 1) n) (stored x k s)
   store l l' a k n x m h (Err j) o = o
   store l l' a k n x m h (Ok d) o = record {

@@ -2,7 +2,6 @@
 -- (`worked_out`); an honest source runs as the two tapes do on them, which are then used up (`follows`), and refuses as 16 alone
 -- (`only_16`). Counting attempts and draws changes nothing (`counts_dropped`); what bounds the counts at every leaf bounds them in every run (`run_below`),
 -- and on two tapes of the bounds' lengths 17 is the only refusal (`only_17`). Assumes nothing.
-use Rattle.refusal.specs.declared.Refusal.TheVariants.{NoDraw, UnfitDraw}
 use Rattle.std.specs.Prelude.{ℕ, zero, suc, ◌+◌, ◌-◌, ◌≤◌, ◌<◌, Bool, true, false, cond, List, [], ◌∷◌, ◌≡◌, refl, length, get_or, drop, Float}
 use Rattle.std.proofs.Common.{arith, sym, ap, ◌∙◌, length-drop, lt-ltb, le-ltb}
 use Rattle.std.specs.Float.{nan}
@@ -52,12 +51,12 @@ serves fit tape at after here x rest e f =
     rw (lt-ltb at (length tape) n.inside, n.here, f)
 
 runs_out : (fit : Float → Bool) (tape : List Float) (at : ℕ) (after here : Place)
-    → drop at tape ≡ [] → on_tape fit tape at after here ≡ no NoDraw here
+    → drop at tape ≡ [] → on_tape fit tape at after here ≡ no 16 here
 runs_out fit tape at after here e = rw (le-ltb at (length tape) (past tape at e))
 
 -- a refusal is 16
 abbrev pub Only16 : {S A : Type 0} → Drawn S A → Type 0
-Only16 (no n s) = n ≡ NoDraw
+Only16 (no n s) = n ≡ 16
 Only16 (got a s) = Unit
 
 -- ---- An honest source gives what the two tapes give on the draws worked out, and both are used up. So a refusal is 16 there and
@@ -84,7 +83,7 @@ module _ {S : Type 0} (D : Source S) (honest : Honest D) where
         → Arm chance_given (on_tape fit_chance cs c (place (c + 1) v) (place c v)) d
     by-chance (no n s) h p q =
         rw (runs_out fit_chance cs c (place (c + 1) v) (place c v) p, h)
-        (ap (no NoDraw) (place_is c (c + 0) v (v + 0) (omega arith) (omega arith)))
+        (ap (no 16) (place_is c (c + 0) v (v + 0) (omega arith) (omega arith)))
     by-chance (got x s) h p q =
         let g = worked_out D (k x) s in
         rw (serves fit_chance cs c (place (c + 1) v) (place c v) x g.chances p h)
@@ -97,7 +96,7 @@ module _ {S : Type 0} (D : Source S) (honest : Honest D) where
         → Arm value_given (on_tape fit vs v (place c (v + 1)) (place c v)) d
     by_value fit (no n s) h p q =
         rw (runs_out fit vs v (place c (v + 1)) (place c v) q, h)
-        (ap (no NoDraw) (place_is c (c + 0) v (v + 0) (omega arith) (omega arith)))
+        (ap (no 16) (place_is c (c + 0) v (v + 0) (omega arith) (omega arith)))
     by_value fit (got x s) h p q =
         let g = worked_out D (k x) s in
         rw (serves fit vs v (place c (v + 1)) (place c v) x g.values q h)
@@ -204,7 +203,7 @@ module _ {S : Type 0} (i : ℕ) (D : Source S) (b : Counts) where
 
 -- ---- tapes of the length of the bounds are long enough: 17 is the only refusal
 abbrev pub Only17 : {A : Type 0} → Drawn Place A → Type 0
-Only17 (no n s) = n ≡ UnfitDraw
+Only17 (no n s) = n ≡ 17
 Only17 (got a s) = Unit
 
 module _ (i : ℕ) (b : Counts) (cs vs : List Float) (long-c : b.chances ≤ length cs) (long-v : b.values ≤ length vs) where
@@ -213,7 +212,7 @@ module _ (i : ℕ) (b : Counts) (cs vs : List Float) (long-c : b.chances ≤ len
       → Only17 (after (on_tape fit tape at next here) (λ x s. run (tapes cs vs) (f x) s))
   unfit fit tape at next here f h g = rw (lt-ltb at (length tape) h) (by (fit (get_or tape at nan)))
     where
-      by : (b : Bool) → Only17 (after (cond b (got (get_or tape at nan) next) (no UnfitDraw here)) (λ x s. run (tapes cs vs) (f x) s))
+      by : (b : Bool) → Only17 (after (cond b (got (get_or tape at nan) next) (no 17 here)) (λ x s. run (tapes cs vs) (f x) s))
       by true = g (get_or tape at nan)
       by false = refl
 

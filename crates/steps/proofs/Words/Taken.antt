@@ -1,6 +1,5 @@
 -- The words that a run takes: never more than there are, and the run is the same whatever words follow those that it took. First of
 -- every tree of questions, then of the runs of batches and openings. Assumes nothing.
-use Rattle.refusal.specs.declared.Refusal.TheVariants.{NoDraw}
 use Rattle.std.specs.Prelude.{ℕ, suc, ◌+◌, ◌≤◌, ◌<◌, Bool, true, false, cond, List, [], ◌∷◌, ◌++◌, ◌≡◌, refl, ltb, Float, length, get_or, drop}
 use Rattle.std.proofs.Math.Decide.{dec_le}
 use Rattle.std.proofs.Common.{arith, ap, subst, length-drop, length-append, lt-ltb, ltb-true}
@@ -40,7 +39,7 @@ chance_between ws at = by (ltb at.value_at (length ws)) (ltb-true at.value_at (l
   where
     by : (b : Bool) → (b ≡ true → at.value_at < length ws)
         → Between (at.value_at + 1) (length ws)
-        (cond b (got (chance_of (get_or ws at.value_at 0)) (place at.chance_at (at.value_at + 1))) (no NoDraw at))
+        (cond b (got (chance_of (get_or ws at.value_at 0)) (place at.chance_at (at.value_at + 1))) (no 16 at))
     by true h = let l = h refl in omega (arith, l)
     by false h = tt
 
@@ -111,7 +110,7 @@ module _ (pre post post' : List ℕ) where
     where
       by : (b : Bool)
           → Near (length pre)
-          (cond b (got (chance_of (get_or (pre ++ post) at.value_at 0)) (place at.chance_at (at.value_at + 1))) (no NoDraw at))
+          (cond b (got (chance_of (get_or (pre ++ post) at.value_at 0)) (place at.chance_at (at.value_at + 1))) (no 16 at))
           (word_chance (pre ++ post') at)
       by true = λ l.
           let inside : at.value_at < length pre = omega (arith, l) in

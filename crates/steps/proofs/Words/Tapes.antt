@@ -1,7 +1,6 @@
 -- The two tapes worked out from words: the chances and values that the steps of a batch or an opening are given by the words, in the
 -- order in which they ask. On sound tables the steps run on these tapes as on the words and use them up, and stop by 16 alone.
 -- Assumes nothing.
-use Rattle.refusal.specs.Refusal.{number}
 use Rattle.std.specs.Prelude.{ℕ, ◌+◌, ◌*◌, ◌/◌, ◌≤◌, true, List, ◌≡◌, refl, Float, length}
 use Rattle.std.proofs.Common.{arith, ap, ◌∙◌}
 use Rattle.machine.specs.Source.{Drawn, no, got, Source, place, tapes}
@@ -57,7 +56,7 @@ module _ (S : Type 0) (Post : ℕ → Running → Counts → Counts → Type 0) 
   stops-16 = rw (P.same D front) (by (run D P.play front) (only_16 D honest P.play (P.served sound) front))
     where
       by : (d : Drawn Place Running) → Only16 d → Stops16 (outcome d)
-      by (no r s) h = ap number h
+      by (no r s) h = h
       by (got x s) h = tt
 
 -- ---- a batch

@@ -1,6 +1,5 @@
 -- The draws that a source gives on its way down a tree of questions, worked out (`worked_out`), and which sources are honest. Definitions; what holds
 -- of them is in proofs/Play/Laws.antt.
-use Rattle.refusal.specs.declared.Refusal.TheVariants.{NoDraw}
 use Rattle.std.specs.Prelude.{Bool, true, List, [], ◌∷◌, ◌≡◌, Float}
 use Rattle.machine.specs.Source.{Drawn, no, got, Source, fit_chance, fit_uniform}
 use Rattle.machine.specs.declared.source.Place.{Place}
@@ -33,7 +32,7 @@ worked_out D (ask_outside k) s = given_by value_given (λ c s. worked_out D (k c
 
 -- ---- a source whose draws are fit, Uniform values where the bounds are valid, and which refuses as 16 alone
 abbrev pub Fit : {S : Type 0} → (Float → Bool) → Drawn S Float → Type 0
-Fit fit (no n s) = n ≡ NoDraw
+Fit fit (no n s) = n ≡ 16
 Fit fit (got v s) = fit v ≡ true
 
 pub record Honest {S : Type 0} (D : Source S) : Type 0 where

@@ -1,9 +1,7 @@
 -- A call's run over all machines is a play: an event, the events of a batch, the signals, and the opening. With their costs: a batch
 -- of n events over M machines makes at most n × (M + 1) + M attempts and two by CounterZero. Assumes nothing.
-use Rattle.refusal.specs.Refusal.{number}
 use Rattle.machine.specs.Source.{draw_of}
 use Rattle.std.specs.Prelude.{Result}
-use Rattle.refusal.specs.declared.Refusal.{Refusal}
 use Rattle.steps.specs.declared.Step.{Step}
 use Prim.Native.Nat.{ℕ, zero, suc, ◌+◌, ◌-◌, ◌*◌, ◌/◌, ◌≤◌, ◌<◌}
 use Rattle.std.proofs.Common.{arith, true≢false, sym, ap, ◌∙◌}
@@ -43,7 +41,7 @@ abbrev pub run_of : Running → Place → Run
 run_of x at = record { framework = x.framework; actions = x.actions; shared = shared x.flags at }
 
 abbrev pub outcome : Drawn Place Running → Outcome
-outcome (no r at) = stop (number r)
+outcome (no r at) = stop r
 outcome (got x at) = go (run_of x at)
 
 -- a batch begins
@@ -101,7 +99,7 @@ module _ (Sound : Type 0) (M : ℕ) where
       flags = d.flags;
     }
 
-    stored-plays : (x : Running) (j : ℕ) (Post : ℕ → Stepping → Counts → Counts → Type 0) (f : Source Place → Place → Result Step Refusal)
+    stored-plays : (x : Running) (j : ℕ) (Post : ℕ → Stepping → Counts → Counts → Type 0) (f : Source Place → Place → Result Step ℕ)
         → Plays Sound stepped Post f
         → Plays Sound outcome (λ i y k k'. Has M x → Has M y × ((d : Stepping) × (d.flags ≡ y.flags) × Post i d k k'))
         (λ D s. stored (run_of x s) j (f D s))

@@ -2,7 +2,6 @@
 -- With what each costs, and with what words can serve of it. Assumes nothing.
 use Rattle.machine.specs.Source.{draw_of}
 use Rattle.std.specs.Prelude.{Result, Ok, Err}
-use Rattle.refusal.specs.declared.Refusal.{Refusal}
 use Prim.Native.Nat.{ℕ, suc, ◌+◌, ◌≤◌, min}
 use native.Mathlib.Omega.{arith}
 use Rattle.std.specs.Prelude.{Bool, not, ◌&&◌, ◌||◌, List, [], ◌∷◌, ◌≡◌, refl, eqb, get_or, Float}
@@ -36,7 +35,7 @@ record Count : Type 0 where
 abbrev counter : Count → Place → Counter
 counter c at = record { value = c.value; zeroed = c.zeroed; reports = c.reports; at = at }
 
-abbrev new_value : Drawn Place Count → Result Counter Refusal
+abbrev new_value : Drawn Place Count → Result Counter ℕ
 new_value (no n at) = Err n
 new_value (got c at) = Ok (counter c at)
 
@@ -52,7 +51,7 @@ tally t at = record { counters = t.counters; place = at; zeroed = t.zeroed; repo
 abbrev pub untold : Counters → Zeroed → Tallying
 untold counters zeroed = record { counters = counters; zeroed = zeroed; reports = false }
 
-abbrev pub tally_drawn : Drawn Place Tallying → Result Tally Refusal
+abbrev pub tally_drawn : Drawn Place Tallying → Result Tally ℕ
 tally_drawn (no n at) = Err n
 tally_drawn (got t at) = Ok (tally t at)
 
@@ -229,13 +228,13 @@ module _ (Sound : Type 0) where
         by_cases false true = once zeroed true
 
   -- ---- the counters of a row in their order
-  abbrev TallyPlays : ℕ → (Source Place → Tally → Result Tally Refusal) → Type 0
+  abbrev TallyPlays : ℕ → (Source Place → Tally → Result Tally ℕ) → Type 0
   TallyPlays j f = (t : Tallying) → Plays Sound tally_drawn (λ i. Tallies j t) (λ D s. f D (tally t s))
 
   tally-none : TallyPlays 0 (λ D. tally_each [])
   tally-none t = plays_end Sound tally_drawn (λ i. Tallies 0 t) _ t (λ D s. refl) (λ i k. (omega arith, omega arith))
 
-  tally-next : (n : ℕ) (f : Source Place → Tally → Result Tally Refusal) (fs : Source Place → List (Tally → Result Tally Refusal))
+  tally-next : (n : ℕ) (f : Source Place → Tally → Result Tally ℕ) (fs : Source Place → List (Tally → Result Tally ℕ))
       → TallyPlays 1 f → TallyPlays n (λ D. tally_each (fs D)) → TallyPlays (suc n) (λ D. tally_each (f D ∷ fs D))
   tally-next n f fs p q t =
       plays_then Sound tally_drawn (λ i. Tallies 1 t) tally_drawn (λ t' i. Tallies n t') (λ i. Tallies (suc n) t)

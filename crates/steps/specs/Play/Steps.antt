@@ -2,7 +2,6 @@
 -- and a CounterZero spends a counter's one report. Assumes nothing.
 use Rattle.machine.specs.Source.{draw_of}
 use Rattle.std.specs.Prelude.{Result, Ok, Err, Option, Some, None}
-use Rattle.refusal.specs.declared.Refusal.{Refusal}
 use Rattle.steps.specs.declared.Step.{Step}
 use Prim.Native.Nat.{ℕ, zero, suc, ◌+◌, ◌-◌, ◌*◌, ◌≤◌}
 use Rattle.std.proofs.Common.{arith, true≢false}
@@ -56,7 +55,7 @@ update u at = record {
   state_changed = u.changed;
 }
 
-abbrev updated : Drawn Place Upd → Result Update Refusal
+abbrev updated : Drawn Place Upd → Result Update ℕ
 updated (no n at) = Err n
 updated (got u at) = Ok (update u at)
 
@@ -66,7 +65,7 @@ pub record Stepping : Type 0 where
   pub action : TriggerAction
   pub changed : Bool
 
-abbrev pub stepped : Drawn Place Stepping → Result Step Refusal
+abbrev pub stepped : Drawn Place Stepping → Result Step ℕ
 stepped (no n at) = Err n
 stepped (got d at) = Ok (record { runtime = d.runtime; shared = shared d.flags at; action = d.action; changed = d.changed })
 
@@ -109,7 +108,7 @@ module _ (Sound : Type 0) (rows transitions : List ℕ) (context : Context)
   E D = env rows transitions D context
 
   abbrev Steps : Type 0
-  Steps = Source Place → MachineRuntime → Shared → TriggerAction → Result Step Refusal
+  Steps = Source Place → MachineRuntime → Shared → TriggerAction → Result Step ℕ
 
   -- a transition by event e is a play, from every machine
   abbrev Transits : ℕ → Steps → Type 0

@@ -1,6 +1,5 @@
 -- Words are an honest source: their chances are fit, their Uniform values too where the bounds are valid, and they refuse as 16 alone.
 -- Assumes nothing.
-use Rattle.refusal.specs.declared.Refusal.TheVariants.{NoDraw}
 use Rattle.std.specs.Prelude.{ℕ, ◌+◌, Bool, true, false, cond, List, [], ◌∷◌, ◌≡◌, refl, ltb, Float, length, get_or, drop}
 use Rattle.std.specs.Float.Ieee.{le}
 use Rattle.machine.specs.Source.{no, got, fit_chance, fit_uniform, place}
@@ -15,7 +14,7 @@ chance_within : (ws : List ℕ) (at : Place) → Fit fit_chance (word_chance ws 
 chance_within ws at = by (ltb at.value_at (length ws))
   where
     by : (b : Bool)
-        → Fit fit_chance (cond b (got (chance_of (get_or ws at.value_at 0)) (place at.chance_at (at.value_at + 1))) (no NoDraw at))
+        → Fit fit_chance (cond b (got (chance_of (get_or ws at.value_at 0)) (place at.chance_at (at.value_at + 1))) (no 16 at))
     by true = chance_fits (get_or ws at.value_at 0)
     by false = refl
 
