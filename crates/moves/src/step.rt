@@ -107,7 +107,7 @@ pub fn finish<D: Draws>(
     if u.allow_schedule && below_action_limits(&e.context, entered, row) {
         let scheduled = schedule_action(row, e.draws, d.shared.place)?;
         d.shared.place = scheduled.at;
-        d.action = scheduled.value;
+        d.action = Some(scheduled.value);
     }
     Ok(d)
 }
@@ -120,7 +120,7 @@ pub fn after_zero(d: Step) -> Update
         runtime: d.runtime,
         shared: d.shared,
         action: d.action,
-        allow_schedule: d.action.kind == 0,
+        allow_schedule: d.action.is_none(),
         state_changed: d.changed,
     }
 }

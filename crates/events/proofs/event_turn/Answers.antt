@@ -1,8 +1,8 @@
 -- `event_turn` meets its contract, a machine at a time.
 use Rattle.std.specs.Prelude.{◌≡◌, ◌-◌, refl}
-use Rattle.std.proofs.Common.{rules, sym, ◌∙◌, arith}
+use Rattle.std.proofs.Common.{rules, arith}
 use Rattle.machine.specs.Tables.{lent_tables}
-use Rattle.steps.specs.Events.{machine_turn, process_event, first_for, turns_for, num_machines}
+use Rattle.steps.specs.Events.{machine_turn, process_event, turns_for, num_machines}
 use Rattle.events.proofs.Turns.{each_on, each_end}
 use Rattle.events.proofs.event_turn.Goals as goal
 

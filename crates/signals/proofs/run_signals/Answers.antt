@@ -1,5 +1,4 @@
 -- `run_signals` meets its contract, a machine at a time, and the machine left out at last.
-use Rattle.std.specs.Prelude.{◌≡◌}
 use Rattle.std.proofs.Common.{rules, arith}
 use Rattle.machine.specs.Tables.{lent_tables}
 use Rattle.steps.specs.Events.{signal_turn, signals}

@@ -2,7 +2,7 @@
 -- of n events over M machines makes at most n × (M + 1) + M attempts and two by CounterZero. Assumes nothing.
 use Rattle.refusal.specs.Refusal.{number}
 use Rattle.machine.specs.Source.{draw_of}
-use Rattle.std.specs.Prelude.{Result}
+use Rattle.std.specs.Prelude.{Result, Option}
 use Rattle.refusal.specs.declared.Refusal.{Refusal}
 use Rattle.steps.specs.declared.Step.{Step}
 use Prim.Native.Nat.{ℕ, zero, suc, ◌+◌, ◌-◌, ◌*◌, ◌/◌, ◌≤◌, ◌<◌}
@@ -36,7 +36,7 @@ use Rattle.steps.specs.declared.TriggerAction.{TriggerAction}
 -- ---- a run without its place
 pub record Running : Type 0 where
   pub framework : Framework
-  pub actions : List TriggerAction
+  pub actions : List (Option TriggerAction)
   pub flags : Flags
 
 abbrev pub run_of : Running → Place → Run

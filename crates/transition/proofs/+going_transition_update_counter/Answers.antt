@@ -1,6 +1,6 @@
 -- `transition` and `update_counter` meet their contracts, by induction on how many counters may still report zero in this call: a
 -- CounterZero transition starts with fewer (`fewer`). Assumes nothing.
-use Rattle.std.proofs.Common.{rules, refl, sym, ap, ◌∙◌, ◌-◌, arith}
+use Rattle.std.proofs.Common.{rules, refl, ◌-◌, arith}
 use Rattle.std.specs.Prelude.{◌≡◌, Ok}
 use Rattle.steps.specs.Transition.{lent_env, update_counters}
 use Rattle.transition.specs.Transition.{going_at, transition_by_lem}

@@ -5,7 +5,6 @@ use mathlib.Core.Path.{◌≡◌, refl}
 use mathlib.Core.List.{List, [], ◌∷◌}
 use native.Mathlib.Omega.{arith}
 use lib.ListN.{length, set, drop, length-set}
-use borrow.Author.Tests.{eq-eqb, ne_eqb}
 use Rattle.framework.proofs.output.put_row.Goals as goal
 
 six : (l : List ℕ) (a b c d e f : ℕ) → 6 ≤ length l →
@@ -17,9 +16,6 @@ six (x₀ ∷ x₁ ∷ []) a b c d e f h = absurd (omega (arith, h))
 six (x₀ ∷ x₁ ∷ x₂ ∷ []) a b c d e f h = absurd (omega (arith, h))
 six (x₀ ∷ x₁ ∷ x₂ ∷ x₃ ∷ []) a b c d e f h = absurd (omega (arith, h))
 six (x₀ ∷ x₁ ∷ x₂ ∷ x₃ ∷ x₄ ∷ []) a b c d e f h = absurd (omega (arith, h))
-
-pub returns-then-p-eq0 : goal.returns-then-p-eq0
-returns-then-p-eq0 c = rw (eq-eqb _ _ c.if-p-eq0.true) (refl, refl)
 
 pub bounds-row-1 : goal.bounds-row-1
 bounds-row-1 c = simp length-set (omega arith)
@@ -34,7 +30,4 @@ pub bounds-row-4 : goal.bounds-row-4
 bounds-row-4 c = simp length-set (omega arith)
 
 pub returns : goal.returns
-returns c =
-    let args = c.args in
-    let pre = c.requires in
-    rw (ne_eqb _ _ c.if-p-eq0.false) (refl, six args.row.now _ _ _ _ _ _ (pre))
+returns c = rw c.in-Some.is (refl, six c.args.row.now _ _ _ _ _ _ c.requires)
