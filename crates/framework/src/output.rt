@@ -16,12 +16,7 @@ fn put_row(row: &mut [u64], machine: u64, pending: Option<TriggerAction>) -> usi
     let Some(p) = pending else {
         return 0;
     };
-    row[0] = machine;
-    row[1] = p.kind;
-    row[2] = p.flags;
-    row[3] = p.timer;
-    row[4] = p.timeout;
-    row[5] = p.duration;
+    row[..ROW_WORDS].copy_from_slice(&[machine, p.kind, p.flags, p.timer, p.timeout, p.duration]);
     ROW_WORDS
 }
 
