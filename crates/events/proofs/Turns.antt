@@ -33,7 +33,7 @@ module _ (f : ℕ → Run → Outcome) (n i : ℕ) (x : Run) where
   each_on h = let one : n - i ≡ suc (n - (i + 1)) = omega arith in rw one
 
 -- where no state was chosen and no limit falls
-only : (E : Env) (falls : Bool) (next : Option ℕ) (r : MachineRuntime) (s : Shared) (p : TriggerAction)
+only : (E : Env) (falls : Bool) (next : Option ℕ) (r : MachineRuntime) (s : Shared) (p : Option TriggerAction)
     → only_counts falls next ≡ true → after_transition E falls (going_at counter_num E next r s p) ≡ done r s p false
 unfolding only_counts going_at
 only E true next r s p e = absurd (false≢true e)
@@ -56,11 +56,11 @@ module _ (T : Tables) (D : Source Place) (quiet : (event machine : ℕ) (at : Pl
   abbrev counted : MachineRuntime
   counted = counted_by kind blocked (runtime_at x.framework m)
 
-  abbrev pending : TriggerAction
+  abbrev pending : Option TriggerAction
   pending = get_or x.actions m no_action
 
   -- the run with the machine, the pending actions and what is shared as they are now
-  abbrev pub left_with : MachineRuntime → List TriggerAction → Shared → Run
+  abbrev pub left_with : MachineRuntime → List (Option TriggerAction) → Shared → Run
   left_with r actions s = record { framework = with_runtime x.framework (set x.framework.runtime m r); actions = actions; shared = s }
 
   pub turn_stops : {why : ℕ} → choice_at T D kind m x ≡ Err why → machine_turn T D kind machine blocked m x ≡ stop why
@@ -88,6 +88,6 @@ module _ (T : Tables) (D : Source Place) (quiet : (event machine : ℕ) (at : Pl
 
       pub turn_acted : {a : TriggerAction} → short (states_of T m) D.values E.context falls next counted (with_place x.shared at) ≡ Acted a d
           → machine_turn T D kind machine blocked m x
-          ≡ go (left_with (runtime_after counted d) (set x.actions m a) (shared_after (with_place x.shared at) d))
+          ≡ go (left_with (runtime_after counted d) (set x.actions m (Some a)) (shared_after (with_place x.shared at) d))
       turn_acted e =
           turn_goes ∙ rw (acted_turn counter_num E falls counted (with_place x.shared at) pending next e)

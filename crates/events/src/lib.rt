@@ -18,7 +18,6 @@ use account::{
 use machine::event::event_of;
 use machine::source::{Draws, Place};
 use machine::tables::Tables;
-use moves::action::no_action;
 use moves::choice::choose;
 use moves::settle::{Short, runtime_after, shared_after, short_way};
 use refusal::Refusal;
@@ -50,7 +49,7 @@ fn begin(fw: &Framework, time: u64) -> Run
     framework.current_time = time;
     Run {
         framework,
-        actions: [no_action(); 16],
+        actions: [None; 16],
         shared: shared_from(fw.signal_pending),
     }
 }
@@ -146,7 +145,7 @@ fn machine_turn<D: Draws>(
             Ok(())
         }
         Short::Acted(p, d) => {
-            x.actions[m] = p;
+            x.actions[m] = Some(p);
             x.framework.runtime[m] = runtime_after(counted, d);
             x.shared = shared_after(x.shared, d);
             Ok(())

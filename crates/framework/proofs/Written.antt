@@ -1,11 +1,10 @@
 -- Rows written one behind the other: each goes into the part of the output that starts where the rows before it end.
 use Prim.Native.Nat.{ℕ, ◌+◌, ◌-◌, ◌≤◌}
 use mathlib.Core.Path.{◌≡◌, sym, ap, ◌∙◌}
-use mathlib.Core.List.{List, [], ◌∷◌, ◌++◌, append_assoc, append-nil}
-use mathlib.Core.Bool.{Bool, true, false, cond}
+use mathlib.Core.List.{List, ◌++◌, append_assoc, append-nil}
+use Rattle.std.specs.Prelude.{Option, Some, None}
 use native.Mathlib.Numerals.{add-one}
 use native.Mathlib.Omega.{arith}
-use lib.Dec.{eqb}
 use lib.ListN.{length, take, drop, get_or, length-append, length-drop, length-take}
 use lib.Seq.{take_at, drop_at, take-length, drop-length, drop-drop}
 use Rattle.steps.specs.Transition.{no_action}
@@ -24,13 +23,11 @@ pasted R o out w ys at e h y =
     rw (y, t, d, l, take-length D, drop-length D) (simp (append-nil, append_assoc, length-append, drop-drop))
 
 -- a row has six words or none
-pub row_short : (m : ℕ) (p : TriggerAction) → length (action_row m p) ≤ 6
-row_short m p = short (eqb p.kind 0) where
-  short : (b : Bool) → length (cond b [] (m ∷ p.kind ∷ p.flags ∷ p.timer ∷ p.timeout ∷ p.duration ∷ [])) ≤ 6
-  short true = omega arith
-  short false = omega arith
+pub row_short : (m : ℕ) (p : Option TriggerAction) → length (action_row m p) ≤ 6
+row_short m None = omega arith
+row_short m (Some p) = omega arith
 
-module _ (actions : List TriggerAction) (m : ℕ) where
+module _ (actions : List (Option TriggerAction)) (m : ℕ) where
   pub rows_more : action_rows actions (m + 1) ≡ action_rows actions m ++ action_row m (get_or actions m no_action)
   unfolding action_rows
   rows_more = rw add-one

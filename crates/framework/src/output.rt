@@ -6,27 +6,22 @@ ghost use Rattle.steps.specs.Framework.{action_row, action_rows, written};
 use machine::constants::ROW_WORDS;
 use steps::TriggerAction;
 
-// An action's row at the front of what is lent, and how many words it has: none where there is no
-// action.
-fn put_row(row: &mut [u64], machine: u64, p: TriggerAction) -> usize
+// A pending action's row at the front of what is lent, and how many words it has: none where there
+// is no action.
+fn put_row(row: &mut [u64], machine: u64, pending: Option<TriggerAction>) -> usize
     requires { row_words ≤ length row.old }
-    ensures { let words = action_row machine p in
+    ensures { let words = action_row machine pending in
         (result ≡ length words) × (row.new ≡ written words row.old) }
 {
-    if p.kind == 0 {
+    let Some(p) = pending else {
         return 0;
-    }
-    row[0] = machine;
-    row[1] = p.kind;
-    row[2] = p.flags;
-    row[3] = p.timer;
-    row[4] = p.timeout;
-    row[5] = p.duration;
+    };
+    row[..ROW_WORDS].copy_from_slice(&[machine, p.kind, p.flags, p.timer, p.timeout, p.duration]);
     ROW_WORDS
 }
 
 // The rows of the first `count` machines, and how many rows. Words after the last row stay.
-pub fn put_rows(actions: &[TriggerAction; 16], count: usize, out: &mut [u64]) -> u64
+pub fn put_rows(actions: &[Option<TriggerAction>; 16], count: usize, out: &mut [u64]) -> u64
     requires { (count ≤ machine_max) × (row_words * count ≤ length out.old) }
     ensures { let words = action_rows actions.now count in
         (result ≡ length words / row_words) × (out.new ≡ written words out.old) }

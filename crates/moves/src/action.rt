@@ -1,7 +1,7 @@
 // framework.rs: the action that a state's row schedules (schedule_action).
 ghost use Rattle.refusal.specs.Refusal.{told};
 ghost use Rattle.std.specs.Prelude.{◌≡◌};
-ghost use Rattle.steps.specs.Transition.{no_action, returned_flags, returned_timer, schedule_action};
+ghost use Rattle.steps.specs.Transition.{returned_flags, returned_timer, schedule_action};
 
 use machine::constants::{ACTION, CANCEL, FLAGS, TIMER, UPDATE_TIMER};
 use machine::source::{Draw, Draws, Place};
@@ -9,18 +9,6 @@ use machine::state::word;
 use refusal::Refusal;
 use samples::action::{sample_duration, sample_timeout};
 use steps::TriggerAction;
-
-pub fn no_action() -> TriggerAction
-    ensures { result ≡ no_action }
-{
-    TriggerAction {
-        kind: 0,
-        flags: 0,
-        timer: 0,
-        timeout: 0,
-        duration: 0,
-    }
-}
 
 // Cancel has no flags, and UpdateTimer's bypass bit is not returned.
 fn returned_flags(row: &[u64]) -> u64

@@ -110,7 +110,7 @@ pub fn finished<D: Draws>(
     if u.allow_schedule && below_action_limits(c, entered, row) {
         let scheduled = schedule_action(row, draws, d.shared.place)?;
         d.shared.place = scheduled.at;
-        d.action = scheduled.value;
+        d.action = Some(scheduled.value);
     }
     Ok(d)
 }
@@ -124,7 +124,7 @@ pub fn after_zero(stepped: Result<Step, Refusal>) -> Result<Update, Refusal>
         runtime: d.runtime,
         shared: d.shared,
         action: d.action,
-        allow_schedule: d.action.kind == 0,
+        allow_schedule: d.action.is_none(),
         state_changed: d.changed,
     })
 }

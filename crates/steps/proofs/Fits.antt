@@ -1,5 +1,7 @@
 -- A framework that fits its tables (18): what that says, part by part; and that an accepted opening and an accepted batch leave one that
 -- does, so that a batch which goes on with it is never refused as 18. Assumes nothing.
+use Rattle.std.specs.Prelude.{Some}
+use Rattle.std.specs.Prelude.{Option}
 use Rattle.std.specs.Prelude.{Ok}
 use Rattle.std.specs.Prelude.{Result, Err}
 use Rattle.steps.specs.declared.Step.{Step}
@@ -87,7 +89,7 @@ unfolding raise
 raised pending i n h = either (λ z. z < 2 + n) (eqb pending 0) (2 + i) 1 (omega arith) (omega arith)
 
 -- each machine is in its states, a pending signal leaves out one of them, and the pending actions are such as the schedules give
-abbrev pub inside_in : (TriggerAction → Type 0) → Tables → Family
+abbrev pub inside_in : (Option TriggerAction → Type 0) → Tables → Family
 inside_in A tables = record {
   RefusedBy = λ n. Unit;
   Machine = λ i. Inside (states_in tables i);
@@ -98,11 +100,11 @@ inside_in A tables = record {
 pub few : (tables : Tables) → Passed tables → rows_in tables.machines ≤ machine_max
 few tables valid = (zero_valid tables.machines tables.states tables.transitions valid).whole.most
 
-module _ (A : TriggerAction → Type 0) (tables : Tables) (D : Source Place) (valid : Passed tables) (clears : A no_action)
+module _ (A : Option TriggerAction → Type 0) (tables : Tables) (D : Source Place) (valid : Passed tables) (clears : A no_action)
     (schedules : (fw : Framework) (i : ℕ) → i < rows_in tables.machines → (r : MachineRuntime) (a : TriggerAction)
     → Inside (states_in tables i) r → Alive r
     → below_action_limits (env_of tables D fw i).context r (row_of (env_of tables D fw i) r) ≡ true
-    → Gives (row_of (env_of tables D fw i) r) a → A a) where
+    → Gives (row_of (env_of tables D fw i) r) a → A (Some a)) where
   closed : (fw : Framework) (i : ℕ) → i < rows_in tables.machines → Closed (env_of tables D fw i) (member (inside_in A tables) i)
   closed fw i h = record {
     refuses = by_any D;

@@ -1,6 +1,6 @@
 -- What the printed run prints of a batch's rows is bounded, so that its columns are wide enough: the words of every row that a batch
 -- writes, and how many it writes. Its refusals are in `Refusals`. Assumes nothing.
-use Rattle.std.specs.Prelude.{ℕ, ◌+◌, ◌*◌, ◌/◌, ◌%◌, ◌≤◌, ◌<◌, min, true, false, List, ◌≡◌, T, eqb, get_or, drop}
+use Rattle.std.specs.Prelude.{ℕ, ◌+◌, ◌*◌, ◌/◌, ◌%◌, ◌≤◌, ◌<◌, min, true, false, Option, Some, None, List, ◌≡◌, T, eqb, get_or, drop}
 use Rattle.std.proofs.Common.{le_trans, le_of_eq, arith, sym, ap, ◌∙◌, subst, lit<, get_or-drop, eqb-true, eq-eqb}
 use Rattle.std.proofs.lemmas.Bool.{false≢true, eqb-false}
 use Rattle.machine.specs.Constants.{machine_max, flags, max_sampled_timeout, max_sampled_duration, cancel, send_padding, update_timer}
@@ -32,8 +32,13 @@ pub record Small (a : TriggerAction) : Type 0 where
   pub timeout : a.timeout ≤ max_sampled_timeout
   pub duration : a.duration ≤ max_sampled_duration
 
-none_small : Small no_action
-none_small = record { kind = omega arith; flags = omega arith; timer = omega arith; timeout = omega arith; duration = omega arith }
+-- a pending one
+abbrev pub SmallPending : Option TriggerAction → Type 0
+SmallPending None = Unit
+SmallPending (Some a) = Small a
+
+none_small : SmallPending no_action
+none_small = tt
 
 -- a state without an action sets none
 has_action : (c : Context) (r : MachineRuntime) (row : List ℕ) → below_action_limits c r row ≡ true → action_of row ≡ 0 → ⊥
@@ -70,9 +75,9 @@ module _ (row : List ℕ) (known : KnownAction row) (some : action_of row ≡ 0 
 
 -- ---- a run over valid tables: the pending actions are small
 run_small : (tables : Tables) (D : Source Place) → Passed tables → (time : ℕ) (es : List ℕ) (fw : Framework) → T (fits_tables tables fw)
-    → OutcomeOk (λ n. Unit) (InRun (inside_in Small tables) (rows_in tables.machines)) (trigger_events tables D time es fw)
+    → OutcomeOk (λ n. Unit) (InRun (inside_in SmallPending tables) (rows_in tables.machines)) (trigger_events tables D time es fw)
 run_small tables D valid time es fw t =
-    run_inside Small tables D valid none_small
+    run_inside SmallPending tables D valid none_small
     (λ fw' i h r a v l below g.
     row_small (row_of (env_of tables D fw' i) r)
     (valid_state tables valid i h r.current_state (in_state r v l)).codes.action
@@ -88,7 +93,7 @@ pub record RowBounds (row : List ℕ) : Type 0 where
   pub timeout : get_or row 4 0 ≤ 86400000000
   pub duration : get_or row 5 0 ≤ 86400000000
 
-row_bounds : (actions : List TriggerAction) (n : ℕ) → n ≤ 16 → ((i : ℕ) → i < n → Small (get_or actions i no_action))
+row_bounds : (actions : List (Option TriggerAction)) (n : ℕ) → n ≤ 16 → ((i : ℕ) → i < n → SmallPending (get_or actions i no_action))
     → (out : List ℕ) (j : ℕ) → RowOf actions n out j → RowBounds (drop (6 * j) out)
 row_bounds actions n most small out j r = record {
   machine = subst (λ (w : ℕ). w < 16) (sym (word 0 (lit< tt))) (below r.machine r.known);
@@ -99,19 +104,19 @@ row_bounds actions n most small out j r = record {
   duration = bound 5 (lit< tt) a.duration;
 }
   where
-    a : Small (get_or actions r.machine no_action)
-    a = small r.machine r.known
+    a : Small r.action
+    a = subst SmallPending r.pending (small r.machine r.known)
 
     below : (m : ℕ) → m < n → m < 16
     below m h = omega (arith, most)
 
-    word : (k : ℕ) → k < 6 → get_or (drop (6 * j) out) k 0 ≡ get_or (row_words r.machine (get_or actions r.machine no_action)) k 0
+    word : (k : ℕ) → k < 6 → get_or (drop (6 * j) out) k 0 ≡ get_or (row_words r.machine r.action) k 0
     word k l = get_or-drop (6 * j) out k 0 ∙ ap (λ (m : ℕ). get_or out (m + k) 0) six ∙ r.word k l
       where
         six : 6 * j ≡ j * 6
         six = omega arith
 
-    bound : (k : ℕ) (l : k < 6) {m : ℕ} → get_or (row_words r.machine (get_or actions r.machine no_action)) k 0 ≤ m
+    bound : (k : ℕ) (l : k < 6) {m : ℕ} → get_or (row_words r.machine r.action) k 0 ≤ m
         → get_or (drop (6 * j) out) k 0 ≤ m
     bound k l h = le_trans (le_of_eq (word k l)) h
 
@@ -123,7 +128,7 @@ most m = omega arith
 pub rows_bounded : (fw : Framework) (tables : Tables) (time : ℕ) (es : List ℕ) (D : Source Place) (out : List ℕ) (j : ℕ)
     → j < (batch fw tables time es D out).answer.actions → RowBounds (drop (6 * j) (batch fw tables time es D out).out)
 rows_bounded fw tables time es D out j =
-    batch_ok (λ n. Unit) (InRun (inside_in Small tables) (rows_in tables.machines))
+    batch_ok (λ n. Unit) (InRun (inside_in SmallPending tables) (rows_in tables.machines))
     (λ b. j < b.answer.actions → RowBounds (drop (6 * j) b.out)) fw tables time es D out
     (λ e. let c = checked fw tables es out e in run_small tables D c.0 time es fw c.1)
     (λ e h. absurd (none h)) (λ e n r h. absurd (none h))

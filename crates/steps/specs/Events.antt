@@ -1,6 +1,6 @@
 -- framework.rs: an event over all machines (process_event), and the signals after the last event. A run is a framework, the
 -- pending actions and what the call shares; a refusal inside it stops it.
-use Rattle.std.specs.Prelude.{Result, Ok, Err}
+use Rattle.std.specs.Prelude.{Result, Ok, Err, Option}
 use Rattle.steps.specs.declared.Step.{Step}
 use Rattle.std.specs.Prelude.{ℕ, zero, suc, ◌+◌, ◌-◌, ◌*◌, min, List, Bool, cond, not, ◌&&◌, ◌||◌, get_or, set, ltb, leb, eqb}
 use Rattle.refusal.specs.Refusal.{number}
@@ -205,7 +205,7 @@ after_transition E falls (Ok d) =
     (decrement_limit E d.runtime d.shared d.action)
     (Ok d)
 
-unfoldable pub turn : Env → ℕ → Bool → ℕ → MachineRuntime → Shared → TriggerAction → Result Step ℕ
+unfoldable pub turn : Env → ℕ → Bool → ℕ → MachineRuntime → Shared → Option TriggerAction → Result Step ℕ
 turn E kind falls blocked r s p = after_transition E falls (transition E (event_of kind) (counted_by kind blocked r) s p)
 
 unfoldable pub machine_turn : Tables → Source Place → ℕ → ℕ → ℕ → ℕ → Run → Outcome

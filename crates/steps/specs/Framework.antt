@@ -1,6 +1,6 @@
 -- framework.rs: the opening (Framework::new), a batch of events (trigger_events) with its refusals and its output, and
 -- all_machines_ended.
-use Rattle.std.specs.Prelude.{Result, Ok, Err}
+use Rattle.std.specs.Prelude.{Result, Ok, Err, Option, Some, None}
 use Rattle.machine.specs.declared.source.Draw.{Draw}
 use Rattle.std.specs.Prelude.{ℕ, zero, suc, ◌+◌, ◌*◌, ◌/◌, ◌%◌, List, [], ◌∷◌, ◌++◌, Bool, true, false, cond, ◌&&◌, ◌||◌, length, get_or, set, drop, replicate, ltb, leb, eqb, Float}
 use Rattle.numbers.specs.Finite.{zero_f}
@@ -35,7 +35,7 @@ none_zeroed = record { counter_a = false; counter_b = false }
 abbrev pub shared_from : ℕ → Shared
 shared_from pending = record { signal_pending = pending; place = place 0 0; zeroed = none_zeroed }
 
-abbrev pub no_actions : List TriggerAction
+abbrev pub no_actions : List (Option TriggerAction)
 no_actions = replicate machine_max no_action
 
 -- ---- the opening
@@ -203,12 +203,14 @@ begin fw time = record { framework = with_time fw time; actions = no_actions; sh
 unfoldable pub trigger_events : Tables → Source Place → ℕ → List ℕ → Framework → Outcome
 trigger_events T D time es fw = and_then (each (event_turn T D es) (length es / 2) 0 (begin fw time)) (signals T D)
 
--- ---- the output: one row of six words for each action, in machine order
-abbrev pub action_row : ℕ → TriggerAction → List ℕ
-action_row i p = cond (eqb p.kind 0) [] (i ∷ p.kind ∷ p.flags ∷ p.timer ∷ p.timeout ∷ p.duration ∷ [])
+-- ---- the output: one row of six words for each action, in machine order; no action is scheduled of a state without one, so the
+-- second word is never 0
+abbrev pub action_row : ℕ → Option TriggerAction → List ℕ
+action_row i None = []
+action_row i (Some p) = i ∷ p.kind ∷ p.flags ∷ p.timer ∷ p.timeout ∷ p.duration ∷ []
 
 -- the rows of the first n machines
-unfoldable pub action_rows : List TriggerAction → ℕ → List ℕ
+unfoldable pub action_rows : List (Option TriggerAction) → ℕ → List ℕ
 action_rows actions zero = []
 action_rows actions (suc n) = action_rows actions n ++ action_row n (get_or actions n no_action)
 

@@ -1,7 +1,7 @@
 -- The walk over all machines of a run: what each machine's steps keep, an opening and a batch keep. Assumes nothing.
 use Rattle.machine.specs.Source.{draw}
 use Rattle.std.specs.Prelude.{Ok}
-use Rattle.std.specs.Prelude.{Result, Err}
+use Rattle.std.specs.Prelude.{Result, Err, Option}
 use Rattle.machine.specs.declared.source.Draw.{Draw}
 use Rattle.steps.specs.declared.Step.{Step}
 use Prim.Native.Nat.{ℕ, zero, suc, ◌<◌}
@@ -65,7 +65,7 @@ module _ (R : ℕ → Type 0) (P : Run → Type 0) (T : Tables) (D : Source Plac
 pub record Family : Type 1 where
   pub RefusedBy : ℕ → Type 0
   pub Machine : ℕ → MachineRuntime → Type 0
-  pub Action : ℕ → TriggerAction → Type 0
+  pub Action : ℕ → Option TriggerAction → Type 0
   pub Signal : ℕ → Type 0
 
 abbrev pub member : Family → ℕ → Kept
@@ -79,7 +79,7 @@ pub record InRun (F : Family) (M : ℕ) (x : Run) : Type 0 where
   pub signal : F.Signal (pending_of x)
 
 -- no action is pending where a batch begins
-pub none_pending : (P : TriggerAction → Type 0) → P no_action → (m i : ℕ) → P (get_or (replicate m no_action) i no_action)
+pub none_pending : (P : Option TriggerAction → Type 0) → P no_action → (m i : ℕ) → P (get_or (replicate m no_action) i no_action)
 none_pending P h zero i = h
 none_pending P h (suc m) zero = h
 none_pending P h (suc m) (suc i) = none_pending P h m i

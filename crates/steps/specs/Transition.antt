@@ -2,6 +2,7 @@
 -- (transition, update_counter, schedule_action, decrement_limit). One machine goes in and comes back: no step touches another.
 use Rattle.std.specs.Prelude.{Float}
 use Rattle.std.specs.Prelude.{Result, Ok, Err, Option, Some, None}
+use Rattle.std.specs.Option.{is_none}
 use Rattle.machine.specs.declared.source.Draw.{Draw}
 use Rattle.steps.specs.declared.Step.{Step}
 use Rattle.std.specs.Prelude.{ℕ, zero, suc, ◌+◌, ◌-◌, ◌*◌, ◌/◌, ◌%◌, List, [], ◌∷◌, Bool, true, false, cond, not, ◌&&◌, ◌||◌, get_or, eqb}
@@ -47,8 +48,8 @@ abbrev pub lent_env : {D : Type 0} → (D → Source Place) → Lent.Env D → E
 lent_env source e = env e.rows.now e.transitions.now (source e.draws.now) e.context
 
 -- ---- records with some fields new; antt has no record update
-abbrev pub no_action : TriggerAction
-no_action = record { kind = 0; flags = 0; timer = 0; timeout = 0; duration = 0 }
+abbrev pub no_action : Option TriggerAction
+no_action = None
 
 abbrev pub with_state : MachineRuntime → ℕ → ℕ → MachineRuntime
 with_state r state limit = record {
@@ -81,7 +82,7 @@ with_signal s pending = record { signal_pending = pending; place = s.place; zero
 abbrev pub with_tally : Shared → Tally → Shared
 with_tally s t = record { signal_pending = s.signal_pending; place = t.place; zeroed = t.zeroed }
 
-abbrev pub done : MachineRuntime → Shared → TriggerAction → Bool → Result Step ℕ
+abbrev pub done : MachineRuntime → Shared → Option TriggerAction → Bool → Result Step ℕ
 done r s p changed = Ok (record { runtime = r; shared = s; action = p; changed = changed })
 
 -- ---- entering a state: another one draws its limit, or sets the largest; the same one keeps what is left of it
@@ -197,7 +198,7 @@ has_changed before u = u.state_changed || not (eqb before u.runtime.current_stat
 
 abbrev pub scheduled_step : Update → Bool → Result (Draw TriggerAction) ℕ → Result Step ℕ
 scheduled_step u changed (Err n) = Err n
-scheduled_step u changed (Ok d) = done u.runtime (with_place u.shared d.at) d.value changed
+scheduled_step u changed (Ok d) = done u.runtime (with_place u.shared d.at) (Some d.value) changed
 
 unfoldable pub finish : List ℕ → Values Place → ℕ → Bool → Update → Result Step ℕ
 finish row values before below u =
@@ -213,10 +214,10 @@ finished row values before below (Ok u) = finish row values before below u
 abbrev pub after_zero : Result Step ℕ → Result Update ℕ
 after_zero (Err n) = Err n
 after_zero (Ok d) =
-    Ok (record { runtime = d.runtime; shared = d.shared; action = d.action; allow_schedule = eqb d.action.kind 0; state_changed = d.changed })
+    Ok (record { runtime = d.runtime; shared = d.shared; action = d.action; allow_schedule = is_none d.action; state_changed = d.changed })
 
 -- the machine with its counters' new values
-abbrev pub counted : MachineRuntime → Shared → TriggerAction → Tally → Update
+abbrev pub counted : MachineRuntime → Shared → Option TriggerAction → Tally → Update
 counted r s p t = record {
   runtime = with_counters r t.counters;
   shared = with_tally s t;
@@ -226,24 +227,24 @@ counted r s p t = record {
 }
 
 -- ---- transition and update_counter, given what a CounterZero transition does
-module _ (zero_transition : MachineRuntime → Shared → TriggerAction → Result Step ℕ) (E : Env) where
-  abbrev pub after_counters : MachineRuntime → Shared → TriggerAction → Result Tally ℕ → Result Update ℕ
+module _ (zero_transition : MachineRuntime → Shared → Option TriggerAction → Result Step ℕ) (E : Env) where
+  abbrev pub after_counters : MachineRuntime → Shared → Option TriggerAction → Result Tally ℕ → Result Update ℕ
   after_counters r s p (Err n) = Err n
   after_counters r s p (Ok t) =
       cond t.reports (after_zero (zero_transition (with_counters r t.counters) (with_tally s t) p)) (Ok (counted r s p t))
 
   -- update_counter, of the row of the machine's state
-  unfoldable pub update_counter : List ℕ → MachineRuntime → Shared → TriggerAction → Result Update ℕ
+  unfoldable pub update_counter : List ℕ → MachineRuntime → Shared → Option TriggerAction → Result Update ℕ
   update_counter row r s p = after_counters r s p (update_counters row E.source.values r.counters s.zeroed s.place)
 
   -- in the next state: limits are judged before the counters
-  abbrev pub entering : List ℕ → ℕ → Shared → TriggerAction → Result (Draw MachineRuntime) ℕ → Result Step ℕ
+  abbrev pub entering : List ℕ → ℕ → Shared → Option TriggerAction → Result (Draw MachineRuntime) ℕ → Result Step ℕ
   entering row before s p (Err n) = Err n
   entering row before s p (Ok d) =
       finished row E.source.values before (below_action_limits E.context d.value row) (update_counter row d.value (with_place s d.at) p)
 
   -- END is a change and neither sets nor clears an action; SIGNAL is no change
-  abbrev pub going : MachineRuntime → Shared → TriggerAction → Option ℕ → Result Step ℕ
+  abbrev pub going : MachineRuntime → Shared → Option TriggerAction → Option ℕ → Result Step ℕ
   going r s p None = done r s p false
   going r s p (Some next) =
       cond (eqb next state_end) (done (with_state r state_end r.state_limit) s p true)
@@ -251,20 +252,20 @@ module _ (zero_transition : MachineRuntime → Shared → TriggerAction → Resu
       (entering (state_row E.rows next) r.current_state s p
       (enter (state_row E.rows next) E.source.values r next s.place)))
 
-  abbrev pub drawn : List ℕ → ℕ → MachineRuntime → Shared → TriggerAction → Result (Draw Float) ℕ → Result Step ℕ
+  abbrev pub drawn : List ℕ → ℕ → MachineRuntime → Shared → Option TriggerAction → Result (Draw Float) ℕ → Result Step ℕ
   drawn row event r s p (Err n) = Err n
   drawn row event r s p (Ok d) =
       going r (with_place s d.at) p (sample_state E.transitions (first_of row event) (count_of row event) d.value)
 
   -- a machine that has ended does nothing; without a row for the event nothing is drawn
-  abbrev pub choosing : ℕ → MachineRuntime → Shared → TriggerAction → Result Step ℕ
+  abbrev pub choosing : ℕ → MachineRuntime → Shared → Option TriggerAction → Result Step ℕ
   choosing event r s p =
       cond (eqb r.current_state state_end) (done r s p false)
       (cond (eqb (count_of (state_row E.rows r.current_state) event) 0) (done r s p false)
       (drawn (state_row E.rows r.current_state) event r s p (chance_draw E.source.chance s.place)))
 
   -- transition: the attempt is told to the source
-  unfoldable pub transition_by : ℕ → MachineRuntime → Shared → TriggerAction → Result Step ℕ
+  unfoldable pub transition_by : ℕ → MachineRuntime → Shared → Option TriggerAction → Result Step ℕ
   transition_by event r s p =
       choosing event r (with_place s (E.source.attempt event E.context.machine s.place)) p
 
@@ -276,23 +277,23 @@ abbrev pub left : Shared → ℕ
 left s = unspent s.zeroed.counter_a + unspent s.zeroed.counter_b
 
 -- the CounterZero transition where n counters may still report; with none left it is never met
-unfoldable pub zero_transition : ℕ → Env → MachineRuntime → Shared → TriggerAction → Result Step ℕ
+unfoldable pub zero_transition : ℕ → Env → MachineRuntime → Shared → Option TriggerAction → Result Step ℕ
 zero_transition zero E r s p = done r s p false
 zero_transition (suc n) E r s p = transition_by (zero_transition n E) E counter_zero r s p
 
-abbrev pub transition_at : ℕ → Env → ℕ → MachineRuntime → Shared → TriggerAction → Result Step ℕ
+abbrev pub transition_at : ℕ → Env → ℕ → MachineRuntime → Shared → Option TriggerAction → Result Step ℕ
 transition_at n E = transition_by (zero_transition n E) E
 
-abbrev pub update_counter_at : ℕ → Env → List ℕ → MachineRuntime → Shared → TriggerAction → Result Update ℕ
+abbrev pub update_counter_at : ℕ → Env → List ℕ → MachineRuntime → Shared → Option TriggerAction → Result Update ℕ
 update_counter_at n E = update_counter (zero_transition n E) E
 
 -- transition: each counter reports once at the most
-abbrev pub transition : Env → ℕ → MachineRuntime → Shared → TriggerAction → Result Step ℕ
+abbrev pub transition : Env → ℕ → MachineRuntime → Shared → Option TriggerAction → Result Step ℕ
 transition E = transition_at counter_num E
 
 -- ---- decrement_limit: the state limit falls by 1, not below 0. At 0, where the action has a limit, the pending action goes and
 -- LimitReached follows.
-unfoldable pub decrement_limit : Env → MachineRuntime → Shared → TriggerAction → Result Step ℕ
+unfoldable pub decrement_limit : Env → MachineRuntime → Shared → Option TriggerAction → Result Step ℕ
 decrement_limit E r s p =
     cond (eqb (r.state_limit - 1) 0 && has_limit (state_row E.rows r.current_state))
     (transition E limit_reached (with_state r r.current_state (r.state_limit - 1)) s no_action)

@@ -31,7 +31,7 @@ use Rattle.steps.specs.declared.Update.{Update}
 pub record Kept : Type 1 where
   pub RefusedBy : ℕ → Type 0
   pub Machine : MachineRuntime → Type 0
-  pub Action : TriggerAction → Type 0
+  pub Action : Option TriggerAction → Type 0
   pub Signal : ℕ → Type 0
 
 -- The row of a machine's state.
@@ -59,7 +59,7 @@ pub record Closed (E : Env) (K : Kept) : Type 0 where
   pub counters : (r : MachineRuntime) (c : Counters) → K.Machine r → K.Machine (with_counters r c)
   -- an action that the limits let pass, at the machine in its state and before the counters change
   pub schedules : (r : MachineRuntime) (a : TriggerAction) → K.Machine r → Alive r
-      → below_action_limits E.context r (row_of E r) ≡ true → Gives (row_of E r) a → K.Action a
+      → below_action_limits E.context r (row_of E r) ≡ true → Gives (row_of E r) a → K.Action (Some a)
   pub clears : K.Action no_action
   pub raises : (pending : ℕ) → K.Signal pending → K.Signal (raise pending E.context.machine)
 
@@ -92,7 +92,7 @@ module _ (E : Env) (K : Kept) (C : Closed E K) where
       with (Ok w) o = (C.enters r next w.value h c, refl)
 
   -- ---- after the counters: `below` was judged before them
-  finish-kept : (row : List ℕ) (before : ℕ) (below : Bool) → (below ≡ true → (a : TriggerAction) → Gives row a → Action a)
+  finish-kept : (row : List ℕ) (before : ℕ) (below : Bool) → (below ≡ true → (a : TriggerAction) → Gives row a → Action (Some a))
       → (u : Update) → UpdateStays (Ok u) → Stays K (finish row E.source.values before below u)
   unfolding finish
   finish-kept row before below j u o =
@@ -106,19 +106,19 @@ module _ (E : Env) (K : Kept) (C : Closed E K) where
       second false true e = refl
       second false false e = e
 
-      set : ((a : TriggerAction) → Gives row a → Action a) → (x : Result (Draw TriggerAction) ℕ) → ScheduledOk RefusedBy row x
+      set : ((a : TriggerAction) → Gives row a → Action (Some a)) → (x : Result (Draw TriggerAction) ℕ) → ScheduledOk RefusedBy row x
           → Stays K (scheduled_step u (has_changed before u) x)
       set j (Err n) g = g
       set j (Ok d) g = (o.0, j d.value g, o.2)
 
   -- ---- transition and update_counter, given that a CounterZero transition keeps it
-  abbrev Again : (MachineRuntime → Shared → TriggerAction → Result Step ℕ) → Type 0
+  abbrev Again : (MachineRuntime → Shared → Option TriggerAction → Result Step ℕ) → Type 0
   Again z =
-      (r : MachineRuntime) (s : Shared) (a : TriggerAction) → Machine r → Action a → Signal s.signal_pending
+      (r : MachineRuntime) (s : Shared) (a : Option TriggerAction) → Machine r → Action a → Signal s.signal_pending
       → Stays K (z r s a)
 
-  module _ (z : MachineRuntime → Shared → TriggerAction → Result Step ℕ) (again : Again z) where
-    update-kept : (row : List ℕ) (r : MachineRuntime) (s : Shared) (a : TriggerAction) → Machine r → Action a
+  module _ (z : MachineRuntime → Shared → Option TriggerAction → Result Step ℕ) (again : Again z) where
+    update-kept : (row : List ℕ) (r : MachineRuntime) (s : Shared) (a : Option TriggerAction) → Machine r → Action a
         → Signal s.signal_pending → UpdateStays (update_counter z E row r s a)
     unfolding update_counter
     update-kept row r s a h p q =
@@ -137,7 +137,7 @@ module _ (E : Env) (K : Kept) (C : Closed E K) where
             (after (z (with_counters r t.counters) (with_tally s t) a)
             (again (with_counters r t.counters) (with_tally s t) a k p q)) (k, p, q)
 
-    entering-kept : (next before : ℕ) (s : Shared) (a : TriggerAction) → (next ≡ state_end → ⊥) → Action a
+    entering-kept : (next before : ℕ) (s : Shared) (a : Option TriggerAction) → (next ≡ state_end → ⊥) → Action a
         → Signal s.signal_pending → (x : Result (Draw MachineRuntime) ℕ) → EntryStays next x
         → Stays K (entering z E (state_row E.rows next) before s a x)
     entering-kept next before s a e p q (Err n) o = o
@@ -148,7 +148,7 @@ module _ (E : Env) (K : Kept) (C : Closed E K) where
         row = state_row E.rows next
 
         -- the row is that of the machine's state
-        passes : below_action_limits E.context d.value row ≡ true → (b : TriggerAction) → Gives row b → Action b
+        passes : below_action_limits E.context d.value row ≡ true → (b : TriggerAction) → Gives row b → Action (Some b)
         passes h b g =
             C.schedules d.value b o.0 (λ f. e (sym o.1 ∙ f))
             (subst (λ (m : ℕ). below_action_limits E.context d.value (state_row E.rows m) ≡ true) (sym o.1) h)
@@ -159,7 +159,7 @@ module _ (E : Env) (K : Kept) (C : Closed E K) where
         finished-kept (Err n) u = u
         finished-kept (Ok u) w = finish-kept row before (below_action_limits E.context d.value row) passes u w
 
-    going-kept : (event : ℕ) (draw : Float) (r : MachineRuntime) (s : Shared) (a : TriggerAction) → Machine r → Alive r → Action a
+    going-kept : (event : ℕ) (draw : Float) (r : MachineRuntime) (s : Shared) (a : Option TriggerAction) → Machine r → Alive r → Action a
         → Signal s.signal_pending → (x : Option ℕ)
         → sample_state E.transitions (first_of (row_of E r) event) (count_of (row_of E r) event) draw ≡ x
         → Stays K (going z E r s a x)
@@ -214,7 +214,7 @@ module _ (E : Env) (K : Kept) (C : Closed E K) where
       (k, p, q)
 
   -- the machine as the event counts it
-  pub turn_kept : (kind : ℕ) (falls : Bool) (blocked : ℕ) (r : MachineRuntime) (s : Shared) (a : TriggerAction)
+  pub turn_kept : (kind : ℕ) (falls : Bool) (blocked : ℕ) (r : MachineRuntime) (s : Shared) (a : Option TriggerAction)
       → Machine (counted_by kind blocked r) → Action a → Signal s.signal_pending → Stays K (turn E kind falls blocked r s a)
   unfolding turn
   turn_kept kind falls blocked r s a h p q =

@@ -72,7 +72,7 @@ pub struct Framework {
     pub totals: Totals,
 }
 
-// A machine's pending action (framework.rs: Option<TriggerAction>), as an output row has it; kind 0 is none.
+// An action that a machine has scheduled (framework.rs: TriggerAction), as an output row has it.
 #[derive(Clone, Copy)]
 pub struct TriggerAction {
     pub kind: u64,
@@ -132,7 +132,7 @@ pub struct Env<'a, D> {
 pub struct Step {
     pub runtime: MachineRuntime,
     pub shared: Shared,
-    pub action: TriggerAction,
+    pub action: Option<TriggerAction>,
     pub changed: bool,
 }
 
@@ -162,7 +162,7 @@ pub struct Tally {
 pub struct Update {
     pub runtime: MachineRuntime,
     pub shared: Shared,
-    pub action: TriggerAction,
+    pub action: Option<TriggerAction>,
     pub allow_schedule: bool,
     pub state_changed: bool,
 }
@@ -171,7 +171,7 @@ pub struct Update {
 #[derive(Clone, Copy)]
 pub struct Run {
     pub framework: Framework,
-    pub actions: [TriggerAction; 16],
+    pub actions: [Option<TriggerAction>; 16],
     pub shared: Shared,
 }
 

@@ -1,5 +1,6 @@
 -- A counter that reports zero uses up its report, so that fewer may follow: what makes the recursion of transition and counter
 -- update end. Assumes nothing.
+use Rattle.std.specs.Prelude.{Option}
 use Rattle.std.specs.Prelude.{Result, Ok, Err}
 use Rattle.machine.specs.declared.source.Draw.{Draw}
 use Rattle.steps.specs.declared.Counter.{Counter}
@@ -116,7 +117,7 @@ module _ (row : List ℕ) (values : Values Place) (r : MachineRuntime) (s : Shar
   one_less n h = omega (arith, fewer)
 
 -- with any counter left, the CounterZero transition is a transition
-zero_is : (n : ℕ) (E : Env) (r : MachineRuntime) (s : Shared) (p : TriggerAction) →
+zero_is : (n : ℕ) (E : Env) (r : MachineRuntime) (s : Shared) (p : Option TriggerAction) →
     0 < n → zero_transition n E r s p ≡ transition_at (n - 1) E counter_zero r s p
 unfolding zero_transition
 zero_is zero E r s p h = absurd (lt_irrefl 0 h)
@@ -125,7 +126,7 @@ zero_is (suc n) E r s p h = let e : suc n - 1 ≡ n = omega arith in rw e
 -- and it is the CounterZero transition
 pub on_report : (E : Env) (row : List ℕ) (r : MachineRuntime) (s : Shared) (t : Tally) →
     update_counters row E.source.values r.counters s.zeroed s.place ≡ Ok t → t.reports ≡ true →
-    (n : ℕ) → left s ≤ n → (p : TriggerAction) →
+    (n : ℕ) → left s ≤ n → (p : Option TriggerAction) →
     update_counter_at n E row r s p
     ≡ after_zero (transition_at (n - 1) E counter_zero (with_counters r t.counters) (with_tally s t) p)
 unfolding update_counter

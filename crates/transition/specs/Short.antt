@@ -29,7 +29,7 @@ use Rattle.steps.specs.declared.Update.{Update}
 use Rattle.transition.specs.Transition.{going_at}
 
 -- the step that a move is, with the action that it leaves
-abbrev pub step_after : MachineRuntime → Shared → TriggerAction → Moved → Step
+abbrev pub step_after : MachineRuntime → Shared → Option TriggerAction → Moved → Step
 step_after r s p d = record {
   runtime = runtime_after r d;
   shared = shared_after s d;
@@ -38,10 +38,10 @@ step_after r s p d = record {
 }
 
 -- what an answer of the short way says of the turn x
-abbrev Says : MachineRuntime → Shared → TriggerAction → Short → Result Step ℕ → Type 0
+abbrev Says : MachineRuntime → Shared → Option TriggerAction → Short → Result Step ℕ → Type 0
 Says r s p Elsewhere x = x ≡ x
 Says r s p (Kept d) x = x ≡ Ok (step_after r s p d)
-Says r s p (Acted q d) x = x ≡ Ok (step_after r s q d)
+Says r s p (Acted q d) x = x ≡ Ok (step_after r s (Some q) d)
 
 -- no limit falls
 no_fall : (falls same x : Bool) → (falls && same) ≡ false → (falls && not (not same) && x) ≡ false
@@ -49,7 +49,7 @@ no_fall true true x h = absurd (false≢true (sym h))
 no_fall true false x h = refl
 no_fall false same x h = refl
 
-module _ (n : ℕ) (E : Env) (falls : Bool) (r : MachineRuntime) (s : Shared) (p : TriggerAction) where
+module _ (n : ℕ) (E : Env) (falls : Bool) (r : MachineRuntime) (s : Shared) (p : Option TriggerAction) where
   -- in a state, whose row is `row`
   module _ (row : List ℕ) (state limit : ℕ) (still : (falls && eqb r.current_state state) ≡ false) where
     abbrev q : MachineRuntime
@@ -140,5 +140,5 @@ module _ (n : ℕ) (E : Env) (falls : Bool) (r : MachineRuntime) (s : Shared) (p
 
   pub acted_turn : (next : Option ℕ) {a : TriggerAction} {d : Moved} →
       short E.rows E.source.values E.context falls next r s ≡ Acted a d →
-      after_transition E falls (going_at n E next r s p) ≡ Ok (step_after r s a d)
+      after_transition E falls (going_at n E next r s p) ≡ Ok (step_after r s (Some a) d)
   acted_turn next e = rw e at (says next)

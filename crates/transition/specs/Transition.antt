@@ -18,7 +18,7 @@ use Rattle.steps.specs.declared.Shared.{Shared}
 use Rattle.steps.specs.declared.TriggerAction.{TriggerAction}
 
 -- after a choice, where n counters may still report zero
-unfoldable pub going_at : ℕ → Env → Option ℕ → MachineRuntime → Shared → TriggerAction → Result Step ℕ
+unfoldable pub going_at : ℕ → Env → Option ℕ → MachineRuntime → Shared → Option TriggerAction → Result Step ℕ
 going_at n E next r s p = going (zero_transition n E) E r s p next
 
 -- each counter reports once at the most: the number that a caller of `transition` gives
@@ -35,12 +35,12 @@ at_most s = either s.zeroed.counter_a s.zeroed.counter_b
 abbrev pub Quiet : Env → Type 0
 Quiet E = (event machine : ℕ) (at : Place) → E.source.attempt event machine at ≡ at
 
-module _ (zero_transition : MachineRuntime → Shared → TriggerAction → Result Step ℕ) (E : Env) where
-  abbrev pub on_choice : MachineRuntime → Shared → TriggerAction → Result (Draw (Option ℕ)) ℕ → Result Step ℕ
+module _ (zero_transition : MachineRuntime → Shared → Option TriggerAction → Result Step ℕ) (E : Env) where
+  abbrev pub on_choice : MachineRuntime → Shared → Option TriggerAction → Result (Draw (Option ℕ)) ℕ → Result Step ℕ
   on_choice r s p (Err n) = Err n
   on_choice r s p (Ok d) = going zero_transition E r (with_place s d.at) p d.value
 
-  module _ (event : ℕ) (r : MachineRuntime) (s : Shared) (p : TriggerAction) where
+  module _ (event : ℕ) (r : MachineRuntime) (s : Shared) (p : Option TriggerAction) where
     after : (d : Result (Draw Float) ℕ) →
         drawn zero_transition E (state_row E.rows r.current_state) event r s p d
         ≡ on_choice r s p (chosen_by (state_row E.rows r.current_state) E.transitions event d)
@@ -66,13 +66,13 @@ module _ (zero_transition : MachineRuntime → Shared → TriggerAction → Resu
         (either (eqb r.current_state state_end) (eqb (count_of (state_row E.rows r.current_state) event) 0)
         (chance_draw E.source.chance s.place))
 
-pub transition_by_lem : (n : ℕ) (E : Env) → Quiet E → (event : ℕ) (r : MachineRuntime) (s : Shared) (p : TriggerAction) {x : Result (Draw (Option ℕ)) ℕ} →
+pub transition_by_lem : (n : ℕ) (E : Env) → Quiet E → (event : ℕ) (r : MachineRuntime) (s : Shared) (p : Option TriggerAction) {x : Result (Draw (Option ℕ)) ℕ} →
     choose E.rows E.transitions E.source.chance r.current_state event s.place ≡ x →
     transition_at n E event r s p ≡ on_choice (zero_transition n E) E r s p x
 transition_by_lem n E quiet event r s p e = rw (transition_is (zero_transition n E) E event r s p quiet, e)
 
 -- what a turn is, by its choice
-module _ (E : Env) (quiet : Quiet E) (kind blocked : ℕ) (falls : Bool) (r : MachineRuntime) (s : Shared) (p : TriggerAction) where
+module _ (E : Env) (quiet : Quiet E) (kind blocked : ℕ) (falls : Bool) (r : MachineRuntime) (s : Shared) (p : Option TriggerAction) where
   turn_by : (x : Result (Draw (Option ℕ)) ℕ) → choose E.rows E.transitions E.source.chance r.current_state (event_of kind) s.place ≡ x →
       turn E kind falls blocked r s p ≡ after_transition E falls (on_choice (zero_transition counter_num E) E (counted_by kind blocked r) s p x)
   unfolding turn

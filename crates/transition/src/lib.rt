@@ -14,7 +14,6 @@ use machine::constants::{STATE_END, STATE_SIGNAL};
 use machine::event::{COUNTER_ZERO, LIMIT_REACHED};
 use machine::source::Draws;
 use machine::state::state_row;
-use moves::action::no_action;
 use moves::choice::choose;
 use moves::step::{after_zero, counted, ended, enter, finished, raise};
 use refusal::Refusal;
@@ -113,7 +112,7 @@ fn decrement_limit<D: Draws>(e: &Env<D>, d: Step) -> Result<Step, Refusal>
     t.runtime.state_limit = numbers::saturating_sub(d.runtime.state_limit, 1);
     t.changed = false;
     if t.runtime.state_limit == 0 && has_limit(state_row(e.rows, d.runtime.current_state)) {
-        t.action = no_action();
+        t.action = None;
         return transition(e, LIMIT_REACHED, t);
     }
     Ok(t)

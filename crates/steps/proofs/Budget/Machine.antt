@@ -1,7 +1,7 @@
 -- One machine's steps keep its packet counts, p and n, and a SendPadding is pending after them only
 -- where one was before or where below_limit_padding passed at these counts: `W` stands for that. An
 -- instance of the walk. Assumes nothing.
-use Rattle.std.specs.Prelude.{ℕ, ◌<◌, Bool, true, List, ◌≡◌, T, eqb}
+use Rattle.std.specs.Prelude.{ℕ, ◌<◌, Bool, true, false, Option, Some, None, List, ◌≡◌, T, eqb}
 use Rattle.std.proofs.Common.{sym, ◌∙◌, subst, eqb→eq}
 use Rattle.machine.specs.Constants.{send_padding}
 use Rattle.machine.specs.Source.{Telling}
@@ -14,14 +14,15 @@ use Rattle.steps.specs.declared.MachineRuntime.{MachineRuntime}
 use Rattle.steps.specs.declared.Context.{Context}
 use Rattle.steps.specs.declared.TriggerAction.{TriggerAction}
 
-abbrev pub is_padding : TriggerAction → Bool
-is_padding a = eqb a.kind send_padding
+abbrev pub is_padding : Option TriggerAction → Bool
+is_padding None = false
+is_padding (Some a) = eqb a.kind send_padding
 
 -- ---- the counts of a machine, what its pending action may be, and the numbers of refusals
 abbrev pub Has : ℕ → ℕ → MachineRuntime → Type 0
 Has p n r = (r.counts.padding_sent ≡ p) × (r.counts.normal_sent ≡ n)
 
-abbrev pub May : Type 0 → TriggerAction → Type 0
+abbrev pub May : Type 0 → Option TriggerAction → Type 0
 May W a = T (is_padding a) → W
 
 abbrev pub Told : ℕ → Type 0

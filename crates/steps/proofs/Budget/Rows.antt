@@ -1,6 +1,6 @@
 -- The returned SendPaddings: a machine with one among the rows is one of the machines, and its pending
 -- action is SendPadding. Assumes nothing.
-use Rattle.std.specs.Prelude.{ℕ, zero, suc, ◌+◌, ◌*◌, ◌<◌, ◌&&◌, List, ◌≡◌, T, eqb, get_or}
+use Rattle.std.specs.Prelude.{ℕ, zero, suc, ◌+◌, ◌*◌, ◌<◌, ◌&&◌, Option, List, ◌≡◌, T, eqb, get_or}
 use Rattle.std.proofs.Common.{add-zero, arith, inl, inr, sym, ap, ◌∙◌, subst, eqb→eq, lit<}
 use Rattle.std.specs.Float.Ieee.Fits.{and_l, and_r}
 use Rattle.machine.specs.Constants.{send_padding}
@@ -12,7 +12,7 @@ use Rattle.steps.proofs.Budget.Invariant.{or_of}
 use Rattle.steps.proofs.Budget.Machine.{is_padding}
 use Rattle.steps.specs.declared.TriggerAction.{TriggerAction}
 
-module _ (actions : List TriggerAction) (n : ℕ) (out : List ℕ) (i : ℕ) where
+module _ (actions : List (Option TriggerAction)) (n : ℕ) (out : List ℕ) (i : ℕ) where
   -- of one row
   one : (j : ℕ) → RowOf actions n out j → T (eqb (get_or out (j * 6) 0) i && eqb (get_or out (j * 6 + 1) 0) send_padding)
       → (i < n) × T (is_padding (get_or actions i no_action))
@@ -23,7 +23,8 @@ module _ (actions : List TriggerAction) (n : ℕ) (out : List ℕ) (i : ℕ) whe
       sym (r.word 0 (lit< tt)) ∙ ap (λ (k : ℕ). get_or out k 0) (add-zero (j * 6)) ∙ eqb→eq (get_or out (j * 6) 0) i (and_l a b t) in (
         subst (λ (k : ℕ). k < n) m r.known,
         subst (λ (k : ℕ). T (is_padding (get_or actions k no_action))) m
-            (subst (λ (k : ℕ). T (eqb k send_padding)) (r.word 1 (lit< tt)) (and_r a b t)),
+            (subst (λ (p : Option TriggerAction). T (is_padding p)) (sym r.pending)
+            (subst (λ (k : ℕ). T (eqb k send_padding)) (r.word 1 (lit< tt)) (and_r a b t))),
       )
 
   -- of the first k
@@ -35,7 +36,7 @@ module _ (actions : List TriggerAction) (n : ℕ) (out : List ℕ) (i : ℕ) whe
     | inr u ↦ one k (h k (omega arith)) u
   ]
 
-pub returned_acts : (actions : List TriggerAction) (n : ℕ) (out : List ℕ) (i : ℕ)
+pub returned_acts : (actions : List (Option TriggerAction)) (n : ℕ) (out : List ℕ) (i : ℕ)
     → T (returns_padding (written (action_rows actions n) out) (row_count actions n) i)
     → (i < n) × T (is_padding (get_or actions i no_action))
 returned_acts actions n out i =

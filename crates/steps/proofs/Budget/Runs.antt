@@ -2,6 +2,7 @@
 -- keeps the invariant, and x's counts are the ledger's. In an event's turns the machines that still
 -- wait have the ledger's counts from before it and the others those from after it: `Mid`. A machine's
 -- own turn changes its own counts and action alone. Assumes nothing.
+use Rattle.std.specs.Prelude.{Option}
 use Rattle.std.specs.Prelude.{Ok}
 use Rattle.std.specs.Prelude.{Result, Err}
 use Rattle.steps.specs.declared.Step.{Step}
@@ -108,7 +109,7 @@ module _ (S : Setup) where
           subst (λ (j : ℕ). T (is_padding (get_or (set x.actions k d.action) j no_action)) → (j < M)
           × Why l' a j) (sym e) act t
       | no e ↦
-          m.acts i (subst (λ (z : TriggerAction). T (is_padding z))
+          m.acts i (subst (λ (z : Option TriggerAction). T (is_padding z))
           (get_or-set_other x.actions k i d.action no_action e) t)
     ];
   }
@@ -140,7 +141,7 @@ module _ (S : Setup) where
       act : T (is_padding (get_or (set x.actions k d.action) k no_action)) → (k < M) × Why l' a k
       act t = (
         h,
-        o.1 (subst (λ (z : TriggerAction). T (is_padding z))
+        o.1 (subst (λ (z : Option TriggerAction). T (is_padding z))
             (get_or-set_same x.actions k d.action no_action (inside (length x.actions) m.room))
             t),
       )

@@ -1,7 +1,7 @@
 -- A call's run over all machines is a play: an event, the events of a batch, the signals, and the opening. With their costs: a batch
 -- of n events over M machines makes at most n × (M + 1) + M attempts and two by CounterZero. Assumes nothing.
 use Rattle.machine.specs.Source.{draw_of}
-use Rattle.std.specs.Prelude.{Result}
+use Rattle.std.specs.Prelude.{Result, Option}
 use Rattle.steps.specs.declared.Step.{Step}
 use Prim.Native.Nat.{ℕ, zero, suc, ◌+◌, ◌-◌, ◌*◌, ◌/◌, ◌≤◌, ◌<◌}
 use Rattle.std.proofs.Common.{arith, true≢false, sym, ap, ◌∙◌}
@@ -34,7 +34,7 @@ use Rattle.steps.specs.declared.TriggerAction.{TriggerAction}
 -- ---- a run without its place
 pub record Running : Type 0 where
   pub framework : Framework
-  pub actions : List TriggerAction
+  pub actions : List (Option TriggerAction)
   pub flags : Flags
 
 abbrev pub run_of : Running → Place → Run

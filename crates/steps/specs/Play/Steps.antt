@@ -2,6 +2,7 @@
 -- and a CounterZero spends a counter's one report. Assumes nothing.
 use Rattle.machine.specs.Source.{draw_of}
 use Rattle.std.specs.Prelude.{Result, Ok, Err, Option, Some, None}
+use Rattle.std.specs.Option.{is_none}
 use Rattle.steps.specs.declared.Step.{Step}
 use Prim.Native.Nat.{ℕ, zero, suc, ◌+◌, ◌-◌, ◌*◌, ◌≤◌}
 use Rattle.std.proofs.Common.{arith, true≢false}
@@ -42,7 +43,7 @@ spare F = unreported F.zeroed
 record Upd : Type 0 where
   runtime : MachineRuntime
   flags : Flags
-  action : TriggerAction
+  action : Option TriggerAction
   allow : Bool
   changed : Bool
 
@@ -62,7 +63,7 @@ updated (got u at) = Ok (update u at)
 pub record Stepping : Type 0 where
   pub runtime : MachineRuntime
   pub flags : Flags
-  pub action : TriggerAction
+  pub action : Option TriggerAction
   pub changed : Bool
 
 abbrev pub stepped : Drawn Place Stepping → Result Step ℕ
@@ -108,19 +109,19 @@ module _ (Sound : Type 0) (rows transitions : List ℕ) (context : Context)
   E D = env rows transitions D context
 
   abbrev Steps : Type 0
-  Steps = Source Place → MachineRuntime → Shared → TriggerAction → Result Step ℕ
+  Steps = Source Place → MachineRuntime → Shared → Option TriggerAction → Result Step ℕ
 
   -- a transition by event e is a play, from every machine
   abbrev Transits : ℕ → Steps → Type 0
   Transits e z =
-      (r : MachineRuntime) (F : Flags) (p : TriggerAction)
+      (r : MachineRuntime) (F : Flags) (p : Option TriggerAction)
       → Plays Sound stepped (λ i d. Attempt i e context.machine F d.flags) (λ D s. z D r (shared F s) p)
 
   abbrev StepsBy : ℕ → ℕ → Flags → Stepping → Counts → Counts → Type 0
   StepsBy c v F d = Within c v F d.flags
 
   -- a step that asks nothing
-  still : (c v : ℕ) (r : MachineRuntime) (F F' : Flags) (p : TriggerAction) (changed : Bool) → spare F' ≡ spare F
+  still : (c v : ℕ) (r : MachineRuntime) (F F' : Flags) (p : Option TriggerAction) (changed : Bool) → spare F' ≡ spare F
       → Plays Sound stepped (λ i. StepsBy c v F) (λ D s. Ok (record { runtime = r; shared = shared F' s; action = p; changed = changed }))
   still c v r F F' p changed e =
       plays_end Sound stepped (λ i. StepsBy c v F) _ (record { runtime = r; flags = F'; action = p; changed = changed }) (λ D s. refl)
@@ -133,7 +134,7 @@ module _ (Sound : Type 0) (rows transitions : List ℕ) (context : Context)
     abbrev Reported : Flags → Tallying → Upd → Counts → Counts → Type 0
     Reported F t u k k' = owed t ≤ spare F → Within 0 0 F u.flags k k'
 
-    report-plays : (r : MachineRuntime) (F : Flags) (p : TriggerAction) (t : Tallying)
+    report-plays : (r : MachineRuntime) (F : Flags) (p : Option TriggerAction) (t : Tallying)
         → Plays Sound updated (λ i. Reported F t)
         (λ D s. after_counters (z D) (E D) r (shared F s) p (tally_drawn (got t s)))
     report-plays r F p t =
@@ -145,7 +146,7 @@ module _ (Sound : Type 0) (rows transitions : List ℕ) (context : Context)
         (λ D s. z D (with_counters r t.counters) (shared (zeroed_by F t) s) p) (λ D. after_zero)
         (again (with_counters r t.counters) (zeroed_by F t) p) (λ D n s. refl)
         (λ d. plays_end Sound updated _ _
-        (record { runtime = d.runtime; flags = d.flags; action = d.action; allow = eqb d.action.kind 0; changed = d.changed })
+        (record { runtime = d.runtime; flags = d.flags; action = d.action; allow = is_none d.action; changed = d.changed })
         (λ D s. refl) (λ i k. (refl, omega arith)))
         (λ i d u k k' k'' h m x. rw m.0 (omega (arith, h, m.1, told e x))))
         (λ e. plays_end Sound updated (λ i. Reported F t) _
@@ -155,7 +156,7 @@ module _ (Sound : Type 0) (rows transitions : List ℕ) (context : Context)
         told : t.reports ≡ true → owed t ≤ spare F → unreported t.zeroed + 1 ≤ spare F
         told e x = rw e at x
 
-    update-plays : (row : List ℕ) (served' : Sound → RowServed row) (r : MachineRuntime) (F : Flags) (p : TriggerAction)
+    update-plays : (row : List ℕ) (served' : Sound → RowServed row) (r : MachineRuntime) (F : Flags) (p : Option TriggerAction)
         → Plays Sound updated (λ i u. Within 0 2 F u.flags) (λ D s. update_counter (z D) (E D) row r (shared F s) p)
     unfolding update_counter
     update-plays row served' r F p =
@@ -176,9 +177,9 @@ module _ (Sound : Type 0) (rows transitions : List ℕ) (context : Context)
         (λ e. plays_on Sound draw_of (λ i p. Spent 2) stepped
         (λ p i d k k'. (d.flags ≡ u.flags) × Spent 0 k k') (λ i. StepsBy 0 2 u.flags)
         (λ D s. schedule_action row D.values s) (λ D s. scheduled_step (update u s) changed)
-        (λ p D s. Ok (record { runtime = u.runtime; shared = shared u.flags s; action = p; changed = changed }))
+        (λ p D s. Ok (record { runtime = u.runtime; shared = shared u.flags s; action = Some p; changed = changed }))
         (schedule_plays Sound row served') (λ D n s₀ s. refl) (λ D p s₀ s. refl)
-        (λ p. plays_end Sound stepped _ _ (record { runtime = u.runtime; flags = u.flags; action = p; changed = changed })
+        (λ p. plays_end Sound stepped _ _ (record { runtime = u.runtime; flags = u.flags; action = Some p; changed = changed })
         (λ D s. refl) (λ i k. (refl, omega arith)))
         (λ i p d k k' k'' h m. rw m.0 (omega (arith, h, m.1))))
         (λ e. still 0 2 u.runtime u.flags u.flags u.action changed refl)
@@ -186,7 +187,7 @@ module _ (Sound : Type 0) (rows transitions : List ℕ) (context : Context)
         changed : Bool
         changed = u.changed || not (eqb before u.runtime.current_state)
 
-    entering-plays : (row : List ℕ) (served' : Sound → RowServed row) (before : ℕ) (F : Flags) (p : TriggerAction) (r : MachineRuntime)
+    entering-plays : (row : List ℕ) (served' : Sound → RowServed row) (before : ℕ) (F : Flags) (p : Option TriggerAction) (r : MachineRuntime)
         → Plays Sound stepped (λ i. StepsBy 0 4 F)
         (λ D s. finished row D.values before (below_action_limits context r row) (update_counter (z D) (E D) row r (shared F s) p))
     entering-plays row served' before F p r =
@@ -196,7 +197,7 @@ module _ (Sound : Type 0) (rows transitions : List ℕ) (context : Context)
         (update-plays row served' r F p) (λ D n s. refl) (finish-plays row served' before (below_action_limits context r row))
         (λ i u d k k' k'' h m. omega arith)
 
-    going-plays : (r : MachineRuntime) (F : Flags) (p : TriggerAction) (x : Option ℕ)
+    going-plays : (r : MachineRuntime) (F : Flags) (p : Option TriggerAction) (x : Option ℕ)
         → Plays Sound stepped (λ i. StepsBy 0 5 F) (λ D s. going (z D) (E D) r (shared F s) p x)
     going-plays r F p None = still 0 5 r F F p false refl
     going-plays r F p (Some next) =
@@ -228,7 +229,7 @@ module _ (Sound : Type 0) (rows transitions : List ℕ) (context : Context)
         go (no n s) = refl
         go (got c s) = refl
 
-    choosing-plays : (event : ℕ) (r : MachineRuntime) (F : Flags) (p : TriggerAction)
+    choosing-plays : (event : ℕ) (r : MachineRuntime) (F : Flags) (p : Option TriggerAction)
         → Plays Sound stepped (λ i. StepsBy 1 5 F) (λ D s. choosing (z D) (E D) event r (shared F s) p)
     choosing-plays event r F p =
         plays_cond Sound stepped (λ i. StepsBy 1 5 F) _ _ (eqb r.current_state state_end)
@@ -270,7 +271,7 @@ module _ (Sound : Type 0) (rows transitions : List ℕ) (context : Context)
   transition_plays event r F p = by-plays (λ D. zero_transition counter_num (E D)) (zero-plays counter_num) event r F p
 
   -- ---- the fall of the state limit, and a whole turn
-  decrement-plays : (r : MachineRuntime) (F : Flags) (p : TriggerAction)
+  decrement-plays : (r : MachineRuntime) (F : Flags) (p : Option TriggerAction)
       → Plays Sound stepped (λ i d. Took 1 0 F d.flags) (λ D s. decrement_limit (E D) r (shared F s) p)
   unfolding decrement_limit
   decrement-plays r F p =
@@ -283,7 +284,7 @@ module _ (Sound : Type 0) (rows transitions : List ℕ) (context : Context)
       (record { runtime = with_state r r.current_state (r.state_limit - 1); flags = F; action = p; changed = false })
       (λ D s. refl) (λ i k. omega arith))
 
-  pub turn_plays : (kind : ℕ) (falls : Bool) (blocked : ℕ) (r : MachineRuntime) (F : Flags) (p : TriggerAction)
+  pub turn_plays : (kind : ℕ) (falls : Bool) (blocked : ℕ) (r : MachineRuntime) (F : Flags) (p : Option TriggerAction)
       → Plays Sound stepped (λ i d k k'. Ordinary (event_of kind) → Took (1 + one falls) 0 F d.flags k k')
       (λ D s. turn (E D) kind falls blocked r (shared F s) p)
   unfolding turn
