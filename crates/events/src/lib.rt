@@ -42,16 +42,16 @@ fn shared_from(signal_pending: u64) -> Shared
 }
 
 // A run before its first event.
-fn begin(fw: &Framework, time: u64) -> Run
+pub fn begin(fw: &Framework, time: u64) -> Run
     ensures { result ≡ begin fw.now time }
 {
-    let mut framework = *fw;
-    framework.current_time = time;
-    Run {
-        framework,
+    let mut x = Run {
+        framework: *fw,
         actions: [None; 16],
         shared: shared_from(fw.signal_pending),
-    }
+    };
+    x.framework.current_time = time;
+    x
 }
 
 // A machine's step goes back into the run; the other machines stay as they were.
@@ -177,6 +177,24 @@ fn event_turn<D: Draws>(
     Ok(())
 }
 
+// The events in order, of a run that is changed in place; after a refusal it is spoiled.
+pub fn process_events<D: Draws>(
+    x: &mut Run,
+    t: &Tables,
+    events: &[u64],
+    draws: &D,
+) -> Result<(), Refusal>
+    requires { kinds_fit events.now (length events.now / 2) ≡ true }
+    ensures is { let es = events.now in
+        left_as result x.new ≡ each (event_turn (lent_tables t.now) (D.source draws.now) es) (length es / 2) 0 x.old }
+    ensures keeps { x.new.framework.machines ≡ x.old.framework.machines }
+{
+    for i in 0..events.len() / 2 {
+        event_turn(x, t, draws, events[i * 2], events[i * 2 + 1])?;
+    }
+    Ok(())
+}
+
 // The run over all events, at a new time.
 pub fn run_events<D: Draws>(
     fw: &Framework,
@@ -191,8 +209,6 @@ pub fn run_events<D: Draws>(
     ensures keeps { IfOk result (λ x. x.framework.machines ≡ fw.now.machines) }
 {
     let mut x = begin(fw, time);
-    for i in 0..events.len() / 2 {
-        event_turn(&mut x, t, draws, events[i * 2], events[i * 2 + 1])?;
-    }
+    process_events(&mut x, t, events, draws)?;
     Ok(x)
 }

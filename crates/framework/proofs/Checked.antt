@@ -14,8 +14,8 @@ use Rattle.tables.proofs.Valid.Laws.{zero_valid}
 use lib.Ieee.{Float}
 use Rattle.tables.specs.Framework.{fractions_refusal}
 use Rattle.steps.specs.Words.{outside_refused}
-use Rattle.steps.specs.Events.{Tables, num_machines, stop}
-use Rattle.steps.specs.Framework.{or_else, rows_in, fits_tables, kinds_fit, events_fit, batch_refusal, trigger_events, refused, concluded, batch, open_refusal, open_run, opened_by, opening}
+use Rattle.steps.specs.Events.{Tables, num_machines, stop, and_then, each, event_turn, signals}
+use Rattle.steps.specs.Framework.{or_else, rows_in, fits_tables, kinds_fit, events_fit, batch_refusal, begin, trigger_events, refused, concluded, batch, open_refusal, open_run, opened_by, opening}
 use Rattle.steps.proofs.Fits.{fits_says}
 use Rattle.steps.specs.declared.Framework.{Framework}
 
@@ -68,8 +68,10 @@ module _ (fw : Framework) (T : Tables) (es : List ℕ) where
       unfolding batch
       rest_stops {n} e h = rw (refusal-is ∙ e, ne_eqb n 0 (λ z. omega (arith, h, z)))
 
-      pub runs : rest fw T es (length out) ≡ 0 → batch fw T time es D out ≡ concluded fw out (trigger_events T D time es fw)
-      unfolding batch
+      pub runs : rest fw T es (length out) ≡ 0 →
+          batch fw T time es D out
+          ≡ concluded fw out (and_then (each (event_turn T D es) (length es / 2) 0 (begin fw time)) (signals T D))
+      unfolding batch trigger_events
       runs e = rw (refusal-is ∙ e)
 
 -- ---- an opening

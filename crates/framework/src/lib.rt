@@ -2,24 +2,24 @@
 // raw words, and all_machines_ended.
 #![tactic(auto)]
 
-ghost use Rattle.std.specs.Prelude.{◌≡◌, true, cond, [], ◌*◌, ◌/◌, ◌≤◌, length, ltb, IfOk};
+ghost use Rattle.std.specs.Prelude.{◌≡◌, true, cond, [], ◌*◌, ◌/◌, ◌≤◌, length, ltb, Ok};
 ghost use Rattle.refusal.specs.Refusal.{refusal_of};
 ghost use Rattle.machine.specs.Constants.{row_words};
 ghost use Rattle.machine.specs.Source.{tapes};
 ghost use Rattle.machine.specs.Tables.{lent_tables};
 ghost use Rattle.tables.specs.Machine.{tables_refusal};
-ghost use Rattle.steps.specs.Events.{num_machines};
+ghost use Rattle.steps.specs.Events.{num_machines, and_then, each, event_turn, signals};
 ghost use Rattle.steps.specs.Framework as Spec;
 ghost use Rattle.steps.specs.Words.{opened_in_words, opening_words, on_words, batch_on, batch_words};
-ghost use Rattle.events.specs.Run.{outcome_of};
+ghost use Rattle.events.specs.Run.{left_as};
 ghost use Rattle.framework.specs.Answers as Answers;
 
-use events::run_events;
+use events::{begin, process_events};
 use machine::constants::{MACHINE_MAX, MACHINE_WORDS, ROW_WORDS};
 use machine::source::{Draws, Tapes, Words};
 use machine::tables::Tables;
 use refusal::Refusal;
-use signals::run_signals;
+use signals::process_signals;
 use steps::{Answer, AnswerWords, Framework, Opened, OpenedWords, Run};
 
 mod checks; // refusals 18 and 19
@@ -80,132 +80,133 @@ fn check_batch(fw: &Framework, t: &Tables, events: &[u64], room: usize) -> Resul
 }
 
 // The events in order, then the signals.
-#[tactic(auto, unfolding(steps::specs::Framework::trigger_events, steps::specs::Events::signals))]
 fn trigger_events<D: Draws>(
-    fw: &Framework,
+    x: &mut Run,
     t: &Tables,
-    time: u64,
     events: &[u64],
     draws: &D,
-) -> Result<Run, Refusal>
+) -> Result<(), Refusal>
     requires { Spec.kinds_fit events.now (length events.now / 2) ≡ true }
-    ensures is { outcome_of result ≡ Spec.trigger_events (lent_tables t.now) (D.source draws.now) time events.now fw.now }
-    ensures keeps { IfOk result (λ x. x.framework.machines ≡ fw.now.machines) }
+    ensures is { let es = events.now in
+        left_as result x.new ≡ and_then (each (event_turn (lent_tables t.now) (D.source draws.now) es) (length es / 2) 0 x.old)
+        (signals (lent_tables t.now) (D.source draws.now)) }
+    ensures keeps { x.new.framework.machines ≡ x.old.framework.machines }
 {
-    let x = run_events(fw, t, time, events, draws)?;
-    if x.shared.signal_pending == 0 {
-        return Ok(x);
-    }
-    run_signals(&x, t, draws)
+    process_events(x, t, events, draws)?;
+    process_signals(x, t, draws)
 }
 
 // An accepted batch: the rows are written, the ended machines counted, and a signal that is still
-// pending waits for the next.
-fn accepted(x: &Run, out: &mut [u64]) -> Answer
-    requires { row_words * num_machines x.now.framework ≤ length out.old }
-    ensures { let B = Spec.accepted x.now out.old in
-        (result ≡ B.answer) × (out.new ≡ B.out) }
+// pending waits for the next. The answer is how many rows.
+fn accepted(x: &mut Run, out: &mut [u64]) -> u64
+    requires { row_words * num_machines x.old.framework ≤ length out.old }
+    ensures { let B = Spec.accepted x.old out.old in
+        (Answers.answered x.old.framework x.new (Ok result) ≡ B.answer) × (out.new ≡ B.out) }
 {
-    let mut framework = x.framework;
-    let count = numbers::smaller(framework.machines, MACHINE_MAX as u64) as usize;
+    let count = numbers::smaller(x.framework.machines, MACHINE_MAX as u64) as usize;
     let actions = output::put_rows(&x.actions, count, out);
-    framework.ended = checks::ended_in(&framework, count);
-    framework.signal_pending = x.shared.signal_pending;
-    Answer {
-        refusal: 0,
-        actions,
-        chance_used: x.shared.place.chance_at as u64,
-        value_used: x.shared.place.value_at as u64,
-        framework,
-    }
+    x.framework.ended = checks::ended_in(&x.framework, count);
+    x.framework.signal_pending = x.shared.signal_pending;
+    actions
 }
 
-// A batch whose tables pass.
+// A batch whose tables pass. The run is lent as it begins: a framework that is passed on is copied.
 fn run_passed<D: Draws>(
+    x: &mut Run,
     fw: &Framework,
     t: &Tables,
-    time: u64,
     events: &[u64],
     draws: &D,
     out: &mut [u64],
-) -> Result<Answer, Refusal>
-    requires { tables_refusal t.now.machines.now t.now.states.now t.now.transitions.now ≡ 0 }
-    ensures { let B = Spec.batch fw.now (lent_tables t.now) time events.now (D.source draws.now) out.old in
-        (Answers.answered fw.now result ≡ B.answer) × (out.new ≡ B.out) }
+) -> Result<u64, Refusal>
+    requires passed { tables_refusal t.now.machines.now t.now.states.now t.now.transitions.now ≡ 0 }
+    requires begun { x.old ≡ Spec.begin fw.now x.old.framework.current_time }
+    ensures { let B = Spec.batch fw.now (lent_tables t.now) x.old.framework.current_time events.now (D.source draws.now) out.old in
+        (Answers.answered fw.now x.new result ≡ B.answer) × (out.new ≡ B.out) }
 {
     check_batch(fw, t, events, out.len())?;
-    let x = trigger_events(fw, t, time, events, draws)?;
-    Ok(accepted(&x, out))
+    trigger_events(x, t, events, draws)?;
+    Ok(accepted(x, out))
 }
 
 fn run_batch<D: Draws>(
+    x: &mut Run,
     fw: &Framework,
     t: &Tables,
-    time: u64,
     events: &[u64],
     draws: &D,
     out: &mut [u64],
-) -> Result<Answer, Refusal>
-    ensures { let B = Spec.batch fw.now (lent_tables t.now) time events.now (D.source draws.now) out.old in
-        (Answers.answered fw.now result ≡ B.answer) × (out.new ≡ B.out) }
+) -> Result<u64, Refusal>
+    requires { x.old ≡ Spec.begin fw.now x.old.framework.current_time }
+    ensures { let B = Spec.batch fw.now (lent_tables t.now) x.old.framework.current_time events.now (D.source draws.now) out.old in
+        (Answers.answered fw.now x.new result ≡ B.answer) × (out.new ≡ B.out) }
 {
     tables::check_tables(t)?;
-    run_passed(fw, t, time, events, draws, out)
+    run_passed(x, fw, t, events, draws, out)
 }
 
 // The same from raw words: 24 after the table checks, and before 18.
 fn run_words(
+    x: &mut Run,
     fw: &Framework,
     t: &Tables,
-    time: u64,
     events: &[u64],
     words: &[u64],
     out: &mut [u64],
-) -> Result<Answer, Refusal>
-    ensures { let B = batch_on fw.now (lent_tables t.now) time events.now (on_words words.now) out.old in
-        (Answers.answered fw.now result ≡ B.answer) × (out.new ≡ B.out) }
+) -> Result<u64, Refusal>
+    requires { x.old ≡ Spec.begin fw.now x.old.framework.current_time }
+    ensures { let B = batch_on fw.now (lent_tables t.now) x.old.framework.current_time events.now (on_words words.now) out.old in
+        (Answers.answered fw.now x.new result ≡ B.answer) × (out.new ≡ B.out) }
 {
     tables::check_tables(t)?;
     if outside::draws_outside(t) {
         return Err(Refusal::DrawnOutside);
     }
-    run_passed(fw, t, time, events, &Words { words }, out)
+    run_passed(x, fw, t, events, &Words { words }, out)
 }
 
 // The answer of a batch: where it was refused, the framework as it went in and no draws.
-fn answered(fw: Framework, answer: Result<Answer, Refusal>) -> Answer
-    ensures { result ≡ Answers.answered fw answer }
+fn answered(fw: &Framework, x: &Run, answer: Result<u64, Refusal>) -> Answer
+    ensures { result ≡ Answers.answered fw.now x.now answer }
 {
     match answer {
-        Ok(a) => a,
+        Ok(actions) => Answer {
+            refusal: 0,
+            actions,
+            chance_used: x.shared.place.chance_at as u64,
+            value_used: x.shared.place.value_at as u64,
+            framework: x.framework,
+        },
         Err(r) => Answer {
             refusal: r.into(),
             actions: 0,
             chance_used: 0,
             value_used: 0,
-            framework: fw,
+            framework: *fw,
         },
     }
 }
 
 // trigger_events: a batch of events at one time, and the actions that it returns as rows of `out`.
 pub fn batch_on<D: Draws>(
-    fw: Framework,
+    fw: &Framework,
     t: &Tables,
     time: u64,
     events: &[u64],
     draws: &D,
     out: &mut [u64],
 ) -> Answer
-    ensures { let B = Spec.batch fw (lent_tables t.now) time events.now (D.source draws.now) out.old in
+    ensures { let B = Spec.batch fw.now (lent_tables t.now) time events.now (D.source draws.now) out.old in
         (result ≡ B.answer) × (out.new ≡ B.out) }
 {
-    answered(fw, run_batch(&fw, t, time, events, draws, out))
+    let mut x = begin(fw, time);
+    let answer = run_batch(&mut x, fw, t, events, draws, out);
+    answered(fw, &x, answer)
 }
 
 // A batch on two tapes.
 pub fn batch(
-    fw: Framework,
+    fw: &Framework,
     t: &Tables,
     time: u64,
     events: &[u64],
@@ -213,7 +214,7 @@ pub fn batch(
     values: &[f64],
     out: &mut [u64],
 ) -> Answer
-    ensures { let B = Spec.batch fw (lent_tables t.now) time events.now (tapes chances.now values.now) out.old in
+    ensures { let B = Spec.batch fw.now (lent_tables t.now) time events.now (tapes chances.now values.now) out.old in
         (result ≡ B.answer) × (out.new ≡ B.out) }
 {
     batch_on(fw, t, time, events, &Tapes { chances, values }, out)
@@ -221,17 +222,19 @@ pub fn batch(
 
 // A batch from raw words.
 pub fn batch_words(
-    fw: Framework,
+    fw: &Framework,
     t: &Tables,
     time: u64,
     events: &[u64],
     words: &[u64],
     out: &mut [u64],
 ) -> AnswerWords
-    ensures { let B = batch_words fw (lent_tables t.now) time events.now words.now out.old in
+    ensures { let B = batch_words fw.now (lent_tables t.now) time events.now words.now out.old in
         (result ≡ B.answer) × (out.new ≡ B.out) }
 {
-    let a = answered(fw, run_words(&fw, t, time, events, words, out));
+    let mut x = begin(fw, time);
+    let answer = run_words(&mut x, fw, t, events, words, out);
+    let a = answered(fw, &x, answer);
     AnswerWords {
         refusal: a.refusal,
         actions: a.actions,

@@ -39,7 +39,7 @@ impl<'a> Batch<'a> {
     // The library's batch.
     pub fn run(&self, out: &mut [u64]) -> Answer {
         framework::batch(
-            self.framework,
+            &self.framework,
             &self.tables,
             self.time,
             self.events,

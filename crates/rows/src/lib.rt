@@ -218,9 +218,13 @@ impl Transitions<'_> {
         if count == 0 {
             return Ok(());
         }
-        match rows_within(self.words, first, count) {
-            Some(row) => self.check_row(row),
-            None => Err(Refusal::RowBeyondTable),
+        // tested here: the rows in an option are slower by a seventh
+        let (rows, _) = self.words.as_chunks::<TRANSITION_WORDS>();
+        let first = first as usize;
+        let count = count as usize;
+        if rows.len() < count || rows.len() - count < first {
+            return Err(Refusal::RowBeyondTable);
         }
+        self.check_row(&rows[first..first + count])
     }
 }

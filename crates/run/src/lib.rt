@@ -90,7 +90,7 @@ pub fn one_call(lent: &Lent, i: u64, s: Standing, line: &mut [u8]) -> Rendered
     let call = stream::call_at(input.words, s.next);
     let mut rows = [0u64; OUTPUT_WORDS];
     let a = framework::batch(
-        s.framework,
+        &s.framework,
         &input.tables(),
         call.time,
         stream::events_at(input.words, s.next),

@@ -110,7 +110,7 @@ pub extern "C" fn maybenot_batch(
         states,
         transitions,
     };
-    let a = framework::batch(*fw, &t, time, events, chances, values, out);
+    let a = framework::batch(fw, &t, time, events, chances, values, out);
     *fw = a.framework;
     Reply {
         refusal: a.refusal,
@@ -140,7 +140,7 @@ pub extern "C" fn maybenot_batch_words(
         states,
         transitions,
     };
-    let a = framework::batch_words(*fw, &t, time, events, words, out);
+    let a = framework::batch_words(fw, &t, time, events, words, out);
     *fw = a.framework;
     ReplyWords {
         refusal: a.refusal,

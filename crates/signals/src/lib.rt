@@ -74,20 +74,29 @@ fn last_signal<D: Draws>(x: &mut Run, t: &Tables, draws: &D, taken: u64) -> Resu
     Ok(())
 }
 
-// A pending signal is taken, and each machine but the one left out hears it.
+// A pending signal is taken, and each machine but the one left out hears it. The run is changed in place; after a refusal it is
+// spoiled.
+pub fn process_signals<D: Draws>(x: &mut Run, t: &Tables, draws: &D) -> Result<(), Refusal>
+    ensures is { left_as result x.new ≡ signals (lent_tables t.now) (D.source draws.now) x.old }
+    ensures keeps { x.new.framework.machines ≡ x.old.framework.machines }
+{
+    let taken = x.shared.signal_pending;
+    if taken == 0 {
+        return Ok(());
+    }
+    x.shared.signal_pending = 0;
+    for m in 0..numbers::smaller(x.framework.machines, 16) as usize {
+        signal_turn(x, t, draws, taken, m)?;
+    }
+    last_signal(x, t, draws, taken)
+}
+
+// The same of a run that stays as it is.
 pub fn run_signals<D: Draws>(x: &Run, t: &Tables, draws: &D) -> Result<Run, Refusal>
     ensures is { outcome_of result ≡ signals (lent_tables t.now) (D.source draws.now) x.now }
     ensures keeps { IfOk result (λ y. y.framework.machines ≡ x.now.framework.machines) }
 {
     let mut y = *x;
-    let taken = x.shared.signal_pending;
-    if taken == 0 {
-        return Ok(y);
-    }
-    y.shared.signal_pending = 0;
-    for m in 0..numbers::smaller(x.framework.machines, 16) as usize {
-        signal_turn(&mut y, t, draws, taken, m)?;
-    }
-    last_signal(&mut y, t, draws, taken)?;
+    process_signals(&mut y, t, draws)?;
     Ok(y)
 }

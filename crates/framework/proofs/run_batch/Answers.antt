@@ -13,5 +13,5 @@ returns-in_err-check_tables g c =
     let T = lent_tables a.t.now in
     let why = c.in_err-check_tables.field-0.0 in
     let refusal : tables_refusal T.machines T.states T.transitions ≡ number why = search rules in
-    let l = tables_stop a.fw.now T a.events.now a.time (g.D.Draws.source a.draws.now) a.out.now refusal (number_positive why) in
+    let l = tables_stop a.fw.now T a.events.now a.x.now.framework.current_time (g.D.Draws.source a.draws.now) a.out.now refusal (number_positive why) in
     search rules

@@ -7,7 +7,7 @@ use Rattle.framework.proofs.Checked.{few_machines, rest, rest_passes, rest_stops
 use Rattle.framework.proofs.run_passed.Goals as goal
 
 pub check_batch-requires : goal.check_batch-requires
-check_batch-requires g c = few_machines _ _ _ c.requires
+check_batch-requires g c = few_machines _ _ _ c.requires.passed
 
 pub returns-in_err-check_batch : goal.returns-in_err-check_batch
 returns-in_err-check_batch g c =
@@ -15,7 +15,7 @@ returns-in_err-check_batch g c =
     let T = lent_tables a.t.now in
     let why = c.in_err-check_batch.field-0.0 in
     let refusal : rest a.fw.now T a.events.now (length a.out.now) ≡ number why = search rules in
-    let l = rest_stops a.fw.now T a.events.now a.time (g.D.Draws.source a.draws.now) a.out.now c.requires refusal (number_positive why) in
+    let l = rest_stops a.fw.now T a.events.now a.x.now.framework.current_time (g.D.Draws.source a.draws.now) a.out.now c.requires.passed refusal (number_positive why) in
     search rules
 
 pub trigger_events-requires : goal.trigger_events-requires
@@ -24,12 +24,12 @@ trigger_events-requires g c =
     let passed : rest a.fw.now (lent_tables a.t.now) a.events.now (length a.out.now) ≡ 0 = search rules in
     (rest_passes a.fw.now (lent_tables a.t.now) a.events.now (length a.out.now) passed).0
 
-pub returns-in_err-x : goal.returns-in_err-x
-returns-in_err-x g c =
+pub returns-in_err-trigger_events : goal.returns-in_err-trigger_events
+returns-in_err-trigger_events g c =
     let a = c.args in
     let T = lent_tables a.t.now in
     let passed : rest a.fw.now T a.events.now (length a.out.now) ≡ 0 = search rules in
-    let l = runs a.fw.now T a.events.now a.time (g.D.Draws.source a.draws.now) a.out.now c.requires passed in
+    let l = runs a.fw.now T a.events.now a.x.now.framework.current_time (g.D.Draws.source a.draws.now) a.out.now c.requires.passed passed in
     search rules
 
 pub accepted-requires : goal.accepted-requires
@@ -44,5 +44,5 @@ returns g c =
     let a = c.args in
     let T = lent_tables a.t.now in
     let passed : rest a.fw.now T a.events.now (length a.out.now) ≡ 0 = search rules in
-    let l = runs a.fw.now T a.events.now a.time (g.D.Draws.source a.draws.now) a.out.now c.requires passed in
+    let l = runs a.fw.now T a.events.now a.x.now.framework.current_time (g.D.Draws.source a.draws.now) a.out.now c.requires.passed passed in
     search rules

@@ -1,11 +1,11 @@
--- `run_events` meets its contract, an event at a time.
+-- `process_events` meets its contract, an event at a time.
 use Rattle.std.specs.Prelude.{◌/◌, length}
 use Rattle.std.proofs.Common.{rules, arith}
 use Rattle.machine.specs.Tables.{lent_tables}
 use Rattle.steps.specs.Events.{event_turn}
 use Rattle.events.proofs.Counts.{kind_fits}
 use Rattle.events.proofs.Turns.{each_on, each_end}
-use Rattle.events.proofs.run_events.Goals as goal
+use Rattle.events.proofs.process_events.Goals as goal
 
 pub event_turn-requires : goal.event_turn-requires
 event_turn-requires g c =
