@@ -113,9 +113,6 @@ module _ (a : List ℕ) (n : ℕ) (two : length a ≡ 2) where
       ≡ add binary32 (of_bits binary32 0) (probability_at (concat only) 0)
   only_sum = rw (probability_is only n 0 whole_one (omega arith))
 
-  pub one_stops : (r : Refusal) → number r ≡ transition_refusal a n 0 false → number r ≡ row_refusal (concat only) n 0 1
-  one_stops r p = row_stops (concat only) n 1 0 _ (omega arith) r (p ∙ sym only_at) ∙ sym (row_starts (concat only) n 1)
-
   pub one_ends : 0 ≡ transition_refusal a n 0 false
       → sum_refusal (add binary32 (of_bits binary32 0) (of_bits binary32 (get_or a 1 0 % 4294967296))) ≡ row_refusal (concat only) n 0 1
   one_ends p =
@@ -146,17 +143,10 @@ module _ (a b : List ℕ) (n : ℕ) (two : length a ≡ 2) (too : length b ≡ 2
   abbrev sum-one : List ℕ → Float
   sum-one t = add binary32 (of_bits binary32 0) (of_bits binary32 (get_or t 1 0 % 4294967296))
 
-  pub first_stops : (r : Refusal) → number r ≡ transition_refusal a n 0 false → number r ≡ row_refusal (concat both) n 0 2
-  first_stops r p = row_stops (concat both) n 2 0 _ (omega arith) r (p ∙ sym first-at) ∙ sym (row_starts (concat both) n 2)
-
   past_first : 0 ≡ transition_refusal a n 0 false → row_refusal (concat both) n 0 2 ≡ rest (concat both) n 2 1 (sum-one a)
   past_first p =
       rw (probability_is both n 0 whole_both (omega arith))
       (row_starts (concat both) n 2 ∙ row_on (concat both) n 2 0 _ (omega arith) (first-at ∙ sym p))
-
-  pub last_stops : 0 ≡ transition_refusal a n 0 false → (r : Refusal)
-      → number r ≡ transition_refusal b n 0 (eqb (get_or a 0 0) (get_or b 0 0)) → number r ≡ row_refusal (concat both) n 0 2
-  last_stops p r q = row_stops (concat both) n 2 1 _ (omega arith) r (q ∙ sym last-at) ∙ sym (past_first p)
 
   pub both_end : 0 ≡ transition_refusal a n 0 false → 0 ≡ transition_refusal b n 0 (eqb (get_or a 0 0) (get_or b 0 0))
       → sum_refusal (add binary32 (sum-one a) (of_bits binary32 (get_or b 1 0 % 4294967296))) ≡ row_refusal (concat both) n 0 2

@@ -7,7 +7,7 @@
 // repeats a target, so no walk is longer than n + 3.
 #![tactic(auto)]
 
-ghost use Rattle.std.specs.Prelude.{◌≡◌, ◌+◌, ◌*◌, ◌%◌, ◌≤◌, ◌<◌, [], ◌∷◌, length, MatchOption};
+ghost use Rattle.std.specs.Prelude.{◌≡◌, ◌+◌, ◌*◌, ◌%◌, ◌≤◌, ◌<◌, [], ◌∷◌, length, get_or, Bool, true, false, cond, eqb, MatchOption};
 ghost use Rattle.std.specs.Float.{binary32};
 ghost use Rattle.std.specs.Float.Ieee.{of_bits};
 ghost use Rattle.std.specs.List.{concat};
@@ -120,22 +120,27 @@ fn check_in_order(transition: &Transition, n: u64, seen: bool) -> Result<(), Ref
     }
 }
 
-// The same. Most transitions go to a state of the machine with a probability above 0 up to 1: such a
-// one is refused only where its target repeats.
+// Whether a transition goes to a state of the machine with a probability above 0 up to 1, as most do: such a one is refused only
+// where its target repeats.
 #[tactic(auto, using(crate::proofs::Words::usual))]
+fn is_usual(transition: &Transition, n: u64) -> bool
+    ensures { result ≡ true → (seen : Bool) → Spec.transition_refusal transition.now n 0 seen ≡ cond seen 11 0 }
+{
+    let [target, word] = *transition;
+    target < n && word != 0 && word <= ONE
+}
+
+// The same as test by test.
 fn check_transition(transition: &Transition, n: u64, seen: bool) -> Result<(), Refusal>
     ensures { refusal_of result ≡ Spec.transition_refusal transition.now n 0 seen }
 {
-    let [target, word] = *transition;
-    if target < n && word != 0 && word <= ONE {
-        if seen {
-            Err(Refusal::RepeatedTarget)
-        } else {
-            Ok(())
-        }
-    } else {
-        check_in_order(transition, n, seen)
+    if !is_usual(transition, n) {
+        return check_in_order(transition, n, seen);
     }
+    if seen {
+        return Err(Refusal::RepeatedTarget);
+    }
+    Ok(())
 }
 
 // Refusal 13.
@@ -153,21 +158,33 @@ fn check_sum(sum: f32) -> Result<(), Refusal>
 // ---- a row: the sum of its probabilities, or the first refusal of its transitions
 
 impl Transitions<'_> {
-    fn sum_of_one(&self, only: &Transition) -> Result<f32, Refusal>
-        ensures { Spec.refusal_of_sum result ≡ Spec.row_refusal (concat (only.now ∷ [])) self.now.states 0 1 }
+    // A row of one usual transition or of two is summed without a loop, and no test of it is passed on.
+    fn is_usual_one(&self, only: &Transition) -> bool
+        ensures { result ≡ true → 0 ≡ Spec.transition_refusal only.now self.now.states 0 false }
     {
-        check_transition(only, self.states, false)?;
-        Ok(0.0 + probability(only[1]))
+        is_usual(only, self.states)
     }
 
-    fn sum_of_two(&self, first: &Transition, last: &Transition) -> Result<f32, Refusal>
-        ensures { Spec.refusal_of_sum result ≡ Spec.row_refusal (concat (first.now ∷ last.now ∷ [])) self.now.states 0 2 }
+    fn sum_of_one(&self, only: &Transition) -> f32
+        requires { 0 ≡ Spec.transition_refusal only.now self.now.states 0 false }
+        ensures { Spec.sum_refusal result ≡ Spec.row_refusal (concat (only.now ∷ [])) self.now.states 0 1 }
     {
-        check_transition(first, self.states, false)?;
-        let sum = 0.0 + probability(first[1]);
-        let seen = first[0] == last[0];
-        check_transition(last, self.states, seen)?;
-        Ok(sum + probability(last[1]))
+        0.0 + probability(only[1])
+    }
+
+    fn are_usual(&self, first: &Transition, last: &Transition) -> bool
+        ensures { result ≡ true → (0 ≡ Spec.transition_refusal first.now self.now.states 0 false)
+            × (0 ≡ Spec.transition_refusal last.now self.now.states 0 (eqb (get_or first.now 0 0) (get_or last.now 0 0))) }
+    {
+        is_usual(first, self.states) && is_usual(last, self.states) && first[0] != last[0]
+    }
+
+    fn sum_of_two(&self, first: &Transition, last: &Transition) -> f32
+        requires { (0 ≡ Spec.transition_refusal first.now self.now.states 0 false)
+            × (0 ≡ Spec.transition_refusal last.now self.now.states 0 (eqb (get_or first.now 0 0) (get_or last.now 0 0))) }
+        ensures { Spec.sum_refusal result ≡ Spec.row_refusal (concat (first.now ∷ last.now ∷ [])) self.now.states 0 2 }
+    {
+        0.0 + probability(first[1]) + probability(last[1])
     }
 
     // One turn a transition: its refusals, then its part of the sum.
@@ -197,8 +214,8 @@ impl Transitions<'_> {
         ensures { Spec.refusal_of_sum result ≡ Spec.row_refusal (concat row.now) self.now.states 0 (length row.now) }
     {
         match row {
-            [only] => self.sum_of_one(only),
-            [first, last] => self.sum_of_two(first, last),
+            [only] if self.is_usual_one(only) => Ok(self.sum_of_one(only)),
+            [first, last] if self.are_usual(first, last) => Ok(self.sum_of_two(first, last)),
             _ if row.len() <= SHORT_ROW => self.sum_of_each(row, &mut LookBack),
             _ if self.states <= FEW_STATES => self.sum_of_marked::<FEW_MARKS>(row),
             _ => self.sum_of_marked::<ALL_MARKS>(row),
@@ -218,7 +235,7 @@ impl Transitions<'_> {
         if count == 0 {
             return Ok(());
         }
-        // tested here: the rows in an option are slower by a seventh
+        // not by `rows_within`: an option of rows costs more than the test
         let (rows, _) = self.words.as_chunks::<TRANSITION_WORDS>();
         let first = first as usize;
         let count = count as usize;

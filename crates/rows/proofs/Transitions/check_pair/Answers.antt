@@ -12,14 +12,14 @@ pub returns-then-rows-count : goal.returns-then-rows-count
 returns-then-rows-count c =
     beyond _ _ _ _ c.if-count-eq0.false
     (elim c.then-rows-count.branch [
-      then-rows-count-via-then-rows-count w ↦ omega (arith, w.if-rows-count.true, c.as_chunks.ensures.front_len)
-    | then-rows-count-via-else-rows-count+then-rows-count-2 w ↦
-      omega (arith, w.if-rows-count.false, w.if-rows-count-2.true, c.as_chunks.ensures.front_len)
+      | then-rows-count-via-then-rows-count w ↦ omega (arith, w.if-rows-count.true, c.as_chunks.ensures.front_len)
+      | then-rows-count-via-else-rows-count+then-rows-count-2 w ↦
+          omega (arith, w.if-rows-count.false, w.if-rows-count-2.true, c.as_chunks.ensures.front_len)
     ])
 
 pub returns : goal.returns
 returns c =
     let e =
-        part_of 2 c.args.first c.args.count c.args.self.now.words.now _ c.as_chunks.ensures.front
-        (omega (arith, c.if-rows-count.false, c.if-rows-count-2.false, c.as_chunks.ensures.front_len)) in
+    part_of 2 c.args.first c.args.count c.args.self.now.words.now _ c.as_chunks.ensures.front
+    (omega (arith, c.if-rows-count.false, c.if-rows-count-2.false, c.as_chunks.ensures.front_len)) in
     c.check_row.ensures ∙ within _ _ _ _ c.if-count-eq0.false e.0 _ _ e.2 e.1

@@ -1,12 +1,6 @@
 -- `Transitions::sum_of_one` meets its contract: no target stands before the first. Assumes nothing.
-use Rattle.std.proofs.lemmas.Result.{err_from_is_err_and}
-use Rattle.rows.proofs.Rows.{one_stops, one_ends}
+use Rattle.rows.proofs.Rows.{one_ends}
 use Rattle.rows.proofs.Transitions.sum_of_one.Goals as goal
 
-pub returns-in_err-check_transition : goal.returns-in_err-check_transition
-returns-in_err-check_transition c =
-    let p = err_from_is_err_and c.from_residual.result c.from_residual.ensures.1 in
-    rw (p.1, p.2) (one_stops _ _ c.told-only _ c.in_err-check_transition.ensures)
-
 pub returns : goal.returns
-returns c = rw c.probability.ensures (one_ends _ _ c.told-only c.in_ok-check_transition.ensures)
+returns c = rw c.probability.ensures (one_ends _ _ c.told-only c.requires)
