@@ -47,6 +47,11 @@ has_action c r row h e = false≢true (sym (none e) ∙ h)
     none : action_of row ≡ 0 → below_action_limits c r row ≡ false
     none e = unfold below_action_limits in rw (eq-eqb (action_of row) 0 e)
 
+-- so the kind of a scheduled action is never 0
+pub scheduled_some : (c : Context) (r : MachineRuntime) (row : List ℕ) → below_action_limits c r row ≡ true
+    → (a : TriggerAction) → Gives row a → a.kind ≡ 0 → ⊥
+scheduled_some c r row h a g e = has_action c r row h (sym g.kind ∙ e)
+
 module _ (row : List ℕ) (known : KnownAction row) (some : action_of row ≡ 0 → ⊥) where
   flags-small : returned_flags row ≤ 3
   flags-small =

@@ -203,8 +203,8 @@ begin fw time = record { framework = with_time fw time; actions = no_actions; sh
 unfoldable pub trigger_events : Tables → Source Place → ℕ → List ℕ → Framework → Outcome
 trigger_events T D time es fw = and_then (each (event_turn T D es) (length es / 2) 0 (begin fw time)) (signals T D)
 
--- ---- the output: one row of six words for each action, in machine order; no action is scheduled of a state without one, so the
--- second word is never 0
+-- ---- the output: one row of six words for each action, in machine order. Its kind is never 0: `below_action_limits` lets no state
+-- without an action schedule one
 abbrev pub action_row : ℕ → Option TriggerAction → List ℕ
 action_row i None = []
 action_row i (Some p) = i ∷ p.kind ∷ p.flags ∷ p.timer ∷ p.timeout ∷ p.duration ∷ []
