@@ -82,7 +82,7 @@ pub const UNIFORM: u64 = 1;
 
 pub const OUTSIDE: u64 = 2;
 
-// Codes of an action; the first is none.
+// Codes of an action; the first is none. Numbers, as all codes here: C lends the tables as words, and any word may stand there.
 pub const NO_ACTION: u64 = 0;
 
 pub const CANCEL: u64 = 1;

@@ -2,7 +2,7 @@
 ghost use Rattle.std.specs.Prelude.{◌≡◌, ◌≤◌};
 ghost use Rattle.machine.specs.Event.{event_of, timer_end_kind};
 
-// `Event`, in its order.
+// `Event`, in its order. Numbers: they are places in a state's row, and C lends a batch's events as words.
 pub const NORMAL_RECV: u64 = 0;
 
 pub const PADDING_RECV: u64 = 1;

@@ -26,7 +26,7 @@ pub struct Moved {
 }
 
 // The machine's move, with the pending action kept or another one set; or that the long way has to
-// be taken.
+// be taken. Three answers, of which none is an error: `Elsewhere` says nothing of the turn.
 #[derive(Clone, Copy)]
 pub enum Short {
     Elsewhere,

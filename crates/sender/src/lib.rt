@@ -17,7 +17,7 @@ use sheet::{SheetBytes, SheetRows};
 use steps::{Framework, Opened, OpenedWords};
 
 // A batch's answer without its framework: the refusal or 0, how many rows it wrote, and how many
-// draws of each tape it took.
+// draws of each tape it took. The refusal is a number: it crosses to C.
 #[repr(C)]
 #[derive(Clone, Copy)]
 pub struct Reply {
@@ -27,7 +27,7 @@ pub struct Reply {
     pub value_used: u64,
 }
 
-// The same of a batch from raw words: how many words it took.
+// The same of a batch from raw words: how many words it took. The refusal is a number: it crosses to C.
 #[repr(C)]
 #[derive(Clone, Copy)]
 pub struct ReplyWords {

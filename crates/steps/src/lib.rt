@@ -89,7 +89,7 @@ pub struct Zeroed {
     pub counter_b: bool,
 }
 
-// What one call threads through all machines: the pending signal, where the tapes go on, and which counters have reported zero.
+// What one call shares between all machines: the pending signal, where the tapes go on, and which counters have reported zero.
 #[derive(Clone, Copy)]
 pub struct Shared {
     pub signal_pending: u64,
@@ -117,7 +117,7 @@ pub struct Context {
 }
 
 // What a machine's steps read and do not change: its own part of the state table, the transition table, the source of its draws, and
-// its context. A machine is one of the most that there may be.
+// its context. The machine's number is below the most machines.
 #[derive(Drop)]
 pub struct Env<'a, D> {
     pub rows: &'a [u64],
@@ -176,6 +176,7 @@ pub struct Run {
 }
 
 // The answer of an opening: the refusal or 0, how many draws of each tape it took, and the framework.
+// The refusal is a number beside them: the struct crosses to C.
 #[repr(C)]
 #[derive(Clone, Copy)]
 pub struct Opened {
@@ -186,6 +187,7 @@ pub struct Opened {
 }
 
 // The answer of a batch: the refusal or 0, how many rows it wrote, how many draws of each tape it took, and the framework.
+// The refusal is a number beside them: the struct crosses to C.
 #[repr(C)]
 #[derive(Clone, Copy)]
 pub struct Answer {
@@ -197,6 +199,7 @@ pub struct Answer {
 }
 
 // The answer of an opening from raw words: the refusal or 0, how many words it took, and the framework.
+// The refusal is a number beside them: the struct crosses to C.
 #[repr(C)]
 #[derive(Clone, Copy)]
 pub struct OpenedWords {
@@ -206,6 +209,7 @@ pub struct OpenedWords {
 }
 
 // The answer of a batch from raw words: the refusal or 0, how many rows it wrote, how many words it took, and the framework.
+// The refusal is a number beside them: the struct crosses to C.
 #[repr(C)]
 #[derive(Clone, Copy)]
 pub struct AnswerWords {
