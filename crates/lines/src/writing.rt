@@ -19,7 +19,9 @@ fn put_line(kind: u64, row: &[u64], line: &mut [u8])
     line[end] = b'\n';
 }
 
-// Puts the lines of the first n rows of a table at the start of sheet.
+// Puts the lines of the first n rows of a table at the start of sheet. Worked out where it is called: there
+// the kind's widths are constants.
+#[inline(always)]
 #[tactic(auto, using(crate::proofs::Places::place), unfolding(cells::specs::Cells::each))]
 pub fn put_lines(kind: LineKind, n: usize, table: &[u64], sheet: &mut [u8])
     requires { (kind.words * n ≤ length table.now) × (kind.size * n ≤ length sheet.old) }
