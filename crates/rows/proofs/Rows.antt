@@ -120,6 +120,10 @@ module _ (a : List ℕ) (n : ℕ) (two : length a ≡ 2) where
       (sym (row_starts (concat only) n 1 ∙ row_on (concat only) n 1 0 _ (omega arith) (only_at ∙ sym p)
       ∙ row_ends (concat only) n 1 1 _ (omega arith)))
 
+  pub one_stops : (r : Refusal) → number r ≡ transition_refusal a n 0 false → number r ≡ row_refusal (concat only) n 0 1
+  one_stops r p =
+      row_stops (concat only) n 1 0 _ (omega arith) r (p ∙ sym only_at) ∙ sym (row_starts (concat only) n 1)
+
 module _ (a b : List ℕ) (n : ℕ) (two : length a ≡ 2) (too : length b ≡ 2) where
   abbrev both : List (List ℕ)
   both = a ∷ b ∷ []
@@ -153,6 +157,14 @@ module _ (a b : List ℕ) (n : ℕ) (two : length a ≡ 2) (too : length b ≡ 2
   both_end p q =
       sym (past_first p ∙ row_on (concat both) n 2 1 _ (omega arith) (last-at ∙ sym q) ∙ row_ends (concat both) n 2 2 _ (omega arith)
       ∙ ap (λ (x : ℕ). sum_refusal (add binary32 (sum-one a) (of_bits binary32 (x % 4294967296)))) (sym (probability_is both n 1 whole_both (omega arith))))
+
+  pub first_stops : (r : Refusal) → number r ≡ transition_refusal a n 0 false → number r ≡ row_refusal (concat both) n 0 2
+  first_stops r p =
+      row_stops (concat both) n 2 0 _ (omega arith) r (p ∙ sym first-at) ∙ sym (row_starts (concat both) n 2)
+
+  pub last_stops : 0 ≡ transition_refusal a n 0 false → (r : Refusal)
+      → number r ≡ transition_refusal b n 0 (eqb (get_or a 0 0) (get_or b 0 0)) → number r ≡ row_refusal (concat both) n 0 2
+  last_stops p r q = row_stops (concat both) n 2 1 _ (omega arith) r (q ∙ sym last-at) ∙ sym (past_first p)
 
 -- ---- a pair (first, count): its row is a part of the table
 module _ (ts : List ℕ) (first count : ℕ) where

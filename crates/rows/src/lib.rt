@@ -187,6 +187,22 @@ impl Transitions<'_> {
         0.0 + probability(first[1]) + probability(last[1])
     }
 
+    // Any other row of one or of two, test by test: to END or SIGNAL, most often.
+    fn sum_of_one_in_order(&self, only: &Transition) -> Result<f32, Refusal>
+        ensures { Spec.refusal_of_sum result ≡ Spec.row_refusal (concat (only.now ∷ [])) self.now.states 0 1 }
+    {
+        check_in_order(only, self.states, false)?;
+        Ok(self.sum_of_one(only))
+    }
+
+    fn sum_of_two_in_order(&self, first: &Transition, last: &Transition) -> Result<f32, Refusal>
+        ensures { Spec.refusal_of_sum result ≡ Spec.row_refusal (concat (first.now ∷ last.now ∷ [])) self.now.states 0 2 }
+    {
+        check_in_order(first, self.states, false)?;
+        check_in_order(last, self.states, first[0] == last[0])?;
+        Ok(self.sum_of_two(first, last))
+    }
+
     // One turn a transition: its refusals, then its part of the sum.
     fn sum_of_each<S: Seen>(&self, row: &[Transition], met: &mut S) -> Result<f32, Refusal>
         requires { S.Holds met.old (concat row.now) self.now.states 0 }
@@ -215,7 +231,9 @@ impl Transitions<'_> {
     {
         match row {
             [only] if self.is_usual_one(only) => Ok(self.sum_of_one(only)),
+            [only] => self.sum_of_one_in_order(only),
             [first, last] if self.are_usual(first, last) => Ok(self.sum_of_two(first, last)),
+            [first, last] => self.sum_of_two_in_order(first, last),
             _ if row.len() <= SHORT_ROW => self.sum_of_each(row, &mut LookBack),
             _ if self.states <= FEW_STATES => self.sum_of_marked::<FEW_MARKS>(row),
             _ => self.sum_of_marked::<ALL_MARKS>(row),

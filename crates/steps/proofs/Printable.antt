@@ -26,6 +26,7 @@ use Rattle.steps.specs.declared.TriggerAction.{TriggerAction}
 
 -- ---- an action
 pub record Small (a : TriggerAction) : Type 0 where
+  pub some : 0 < a.kind
   pub kind : a.kind ≤ 4
   pub flags : a.flags ≤ 3
   pub timer : a.timer ≤ 2
@@ -71,12 +72,16 @@ module _ (row : List ℕ) (known : KnownAction row) (some : action_of row ≡ 0 
 
   row_small : (a : TriggerAction) → Gives row a → Small a
   row_small a g = record {
+    some = above (λ e. some (sym g.kind ∙ e));
     kind = le_trans (le_of_eq g.kind) known.action;
     flags = le_trans (le_of_eq g.flags) flags-small;
     timer = le_trans (le_of_eq g.timer) timer-small;
     timeout = g.timeout;
     duration = g.duration;
   }
+    where
+      above : (a.kind ≡ 0 → ⊥) → 0 < a.kind
+      above h = omega (arith, h)
 
 -- ---- a run over valid tables: the pending actions are small
 run_small : (tables : Tables) (D : Source Place) → Passed tables → (time : ℕ) (es : List ℕ) (fw : Framework) → T (fits_tables tables fw)
@@ -92,6 +97,7 @@ run_small tables D valid time es fw t =
 -- ---- a row of six words, as a line of the printed run has it
 pub record RowBounds (row : List ℕ) : Type 0 where
   pub machine : get_or row 0 0 < 16
+  pub some : 0 < get_or row 1 0
   pub kind : get_or row 1 0 ≤ 4
   pub flags : get_or row 2 0 ≤ 3
   pub timer : get_or row 3 0 ≤ 2
@@ -102,6 +108,7 @@ row_bounds : (actions : List (Option TriggerAction)) (n : ℕ) → n ≤ 16 → 
     → (out : List ℕ) (j : ℕ) → RowOf actions n out j → RowBounds (drop (6 * j) out)
 row_bounds actions n most small out j r = record {
   machine = subst (λ (w : ℕ). w < 16) (sym (word 0 (lit< tt))) (below r.machine r.known);
+  some = subst (λ (w : ℕ). 0 < w) (sym (word 1 (lit< tt))) a.some;
   kind = bound 1 (lit< tt) a.kind;
   flags = bound 2 (lit< tt) a.flags;
   timer = bound 3 (lit< tt) a.timer;
