@@ -71,14 +71,22 @@ word_number w k =
     let a : w % 0x8000_0000 ≤ 0x7f80_0000 = omega arith in
     subst (λ (b : Bool). T (not b)) (sym (nan_bits_above binary32 w ∙ le-ltb 0x7f80_0000 (w % 0x8000_0000) a)) tt
 
--- ---- a transition to a state of the machine, with such a word, is refused only where its target repeats
-pub usual : (t : List ℕ) (n : ℕ) (seen : Bool) → get_or t 0 0 < n → (get_or t 1 0 ≡ 0 → ⊥) → get_or t 1 0 ≤ 0x3f80_0000
+-- ---- a transition with a target and such a word is refused only where its target repeats
+pub good : (t : List ℕ) (n : ℕ) (seen : Bool) → is_target n (get_or t 0 0) ≡ true → (get_or t 1 0 ≡ 0 → ⊥) → get_or t 1 0 ≤ 0x3f80_0000
     → transition_refusal t n 0 seen ≡ cond seen 11 0
-unfolding transition_refusal is_target
-usual t n seen h some below =
+unfolding transition_refusal
+good t n seen h some below =
     rw (zero-mul 2)
     (simp (
       lt-leb 0x1_0000_0000 (get_or t 1 0) (lt_of_le_of_lt below (lit< tt)),
-      lt-ltb (get_or t 0 0) n h,
+      h,
       word_probable (get_or t 1 0) (pos_of_ne-zero some) below,
     ))
+
+-- as is one to a state of the machine
+pub usual : (t : List ℕ) (n : ℕ) (seen : Bool) → get_or t 0 0 < n → (get_or t 1 0 ≡ 0 → ⊥) → get_or t 1 0 ≤ 0x3f80_0000
+    → transition_refusal t n 0 seen ≡ cond seen 11 0
+usual t n seen h some below = good t n seen (state h) some below
+  where
+    state : get_or t 0 0 < n → is_target n (get_or t 0 0) ≡ true
+    state h = unfold is_target in rw (lt-ltb (get_or t 0 0) n h)

@@ -130,11 +130,20 @@ fn is_usual(transition: &Transition, n: u64) -> bool
     target < n && word != 0 && word <= ONE
 }
 
+// The same of a transition that may go to END or SIGNAL.
+#[tactic(auto, using(crate::proofs::Words::good))]
+fn is_good(transition: &Transition, n: u64) -> bool
+    ensures { result ≡ true → (seen : Bool) → Spec.transition_refusal transition.now n 0 seen ≡ cond seen 11 0 }
+{
+    let [target, word] = *transition;
+    is_target(n, target) && word != 0 && word <= ONE
+}
+
 // The same as test by test.
 fn check_transition(transition: &Transition, n: u64, seen: bool) -> Result<(), Refusal>
     ensures { refusal_of result ≡ Spec.transition_refusal transition.now n 0 seen }
 {
-    if !is_usual(transition, n) {
+    if !is_good(transition, n) {
         return check_in_order(transition, n, seen);
     }
     if seen {
@@ -187,19 +196,19 @@ impl Transitions<'_> {
         0.0 + probability(first[1]) + probability(last[1])
     }
 
-    // Any other row of one or of two, test by test: to END or SIGNAL, most often.
-    fn sum_of_one_in_order(&self, only: &Transition) -> Result<f32, Refusal>
+    // Any other row of one or of two, without a loop too: to END or SIGNAL, most often.
+    fn sum_of_any_one(&self, only: &Transition) -> Result<f32, Refusal>
         ensures { Spec.refusal_of_sum result ≡ Spec.row_refusal (concat (only.now ∷ [])) self.now.states 0 1 }
     {
-        check_in_order(only, self.states, false)?;
+        check_transition(only, self.states, false)?;
         Ok(self.sum_of_one(only))
     }
 
-    fn sum_of_two_in_order(&self, first: &Transition, last: &Transition) -> Result<f32, Refusal>
+    fn sum_of_any_two(&self, first: &Transition, last: &Transition) -> Result<f32, Refusal>
         ensures { Spec.refusal_of_sum result ≡ Spec.row_refusal (concat (first.now ∷ last.now ∷ [])) self.now.states 0 2 }
     {
-        check_in_order(first, self.states, false)?;
-        check_in_order(last, self.states, first[0] == last[0])?;
+        check_transition(first, self.states, false)?;
+        check_transition(last, self.states, first[0] == last[0])?;
         Ok(self.sum_of_two(first, last))
     }
 
@@ -231,9 +240,9 @@ impl Transitions<'_> {
     {
         match row {
             [only] if self.is_usual_one(only) => Ok(self.sum_of_one(only)),
-            [only] => self.sum_of_one_in_order(only),
+            [only] => self.sum_of_any_one(only),
             [first, last] if self.are_usual(first, last) => Ok(self.sum_of_two(first, last)),
-            [first, last] => self.sum_of_two_in_order(first, last),
+            [first, last] => self.sum_of_any_two(first, last),
             _ if row.len() <= SHORT_ROW => self.sum_of_each(row, &mut LookBack),
             _ if self.states <= FEW_STATES => self.sum_of_marked::<FEW_MARKS>(row),
             _ => self.sum_of_marked::<ALL_MARKS>(row),
