@@ -130,6 +130,19 @@ fn is_usual(transition: &Transition, n: u64) -> bool
     target < n && word != 0 && word <= ONE
 }
 
+// The same as test by test.
+fn check_transition(transition: &Transition, n: u64, seen: bool) -> Result<(), Refusal>
+    ensures { refusal_of result ≡ Spec.transition_refusal transition.now n 0 seen }
+{
+    if !is_usual(transition, n) {
+        return check_in_order(transition, n, seen);
+    }
+    if seen {
+        return Err(Refusal::RepeatedTarget);
+    }
+    Ok(())
+}
+
 // The same of a transition that may go to END or SIGNAL.
 #[tactic(auto, using(crate::proofs::Words::good))]
 fn is_good(transition: &Transition, n: u64) -> bool
@@ -137,19 +150,6 @@ fn is_good(transition: &Transition, n: u64) -> bool
 {
     let [target, word] = *transition;
     is_target(n, target) && word != 0 && word <= ONE
-}
-
-// The same as test by test.
-fn check_transition(transition: &Transition, n: u64, seen: bool) -> Result<(), Refusal>
-    ensures { refusal_of result ≡ Spec.transition_refusal transition.now n 0 seen }
-{
-    if !is_good(transition, n) {
-        return check_in_order(transition, n, seen);
-    }
-    if seen {
-        return Err(Refusal::RepeatedTarget);
-    }
-    Ok(())
 }
 
 // Refusal 13.
@@ -196,19 +196,35 @@ impl Transitions<'_> {
         0.0 + probability(first[1]) + probability(last[1])
     }
 
-    // Any other row of one or of two, without a loop too: to END or SIGNAL, most often.
+    // The same of rows that may go to END or SIGNAL.
+    fn is_good_one(&self, only: &Transition) -> bool
+        ensures { result ≡ true → 0 ≡ Spec.transition_refusal only.now self.now.states 0 false }
+    {
+        is_good(only, self.states)
+    }
+
+    fn are_good(&self, first: &Transition, last: &Transition) -> bool
+        ensures { result ≡ true → (0 ≡ Spec.transition_refusal first.now self.now.states 0 false)
+            × (0 ≡ Spec.transition_refusal last.now self.now.states 0 (eqb (get_or first.now 0 0) (get_or last.now 0 0))) }
+    {
+        is_good(first, self.states) && is_good(last, self.states) && first[0] != last[0]
+    }
+
+    // Any other row of one or of two, test by test.
+    #[inline(never)]
     fn sum_of_any_one(&self, only: &Transition) -> Result<f32, Refusal>
         ensures { Spec.refusal_of_sum result ≡ Spec.row_refusal (concat (only.now ∷ [])) self.now.states 0 1 }
     {
-        check_transition(only, self.states, false)?;
+        check_in_order(only, self.states, false)?;
         Ok(self.sum_of_one(only))
     }
 
+    #[inline(never)]
     fn sum_of_any_two(&self, first: &Transition, last: &Transition) -> Result<f32, Refusal>
         ensures { Spec.refusal_of_sum result ≡ Spec.row_refusal (concat (first.now ∷ last.now ∷ [])) self.now.states 0 2 }
     {
-        check_transition(first, self.states, false)?;
-        check_transition(last, self.states, first[0] == last[0])?;
+        check_in_order(first, self.states, false)?;
+        check_in_order(last, self.states, first[0] == last[0])?;
         Ok(self.sum_of_two(first, last))
     }
 
@@ -240,8 +256,10 @@ impl Transitions<'_> {
     {
         match row {
             [only] if self.is_usual_one(only) => Ok(self.sum_of_one(only)),
+            [only] if self.is_good_one(only) => Ok(self.sum_of_one(only)),
             [only] => self.sum_of_any_one(only),
             [first, last] if self.are_usual(first, last) => Ok(self.sum_of_two(first, last)),
+            [first, last] if self.are_good(first, last) => Ok(self.sum_of_two(first, last)),
             [first, last] => self.sum_of_any_two(first, last),
             _ if row.len() <= SHORT_ROW => self.sum_of_each(row, &mut LookBack),
             _ if self.states <= FEW_STATES => self.sum_of_marked::<FEW_MARKS>(row),
